@@ -1,0 +1,2 @@
+//! What a lawful run of a script is: rows and books, lawful turns, injector rounds and runs.
+#![tactic(auto)]

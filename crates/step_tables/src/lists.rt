@@ -1,0 +1,195 @@
+//! The lists of a script. Contracts see each as the list that it holds.
+
+ghost use Rattle.std.specs.Prelude.{◌≡◌, List};
+
+use crate::tables::{Action, Event, Row, TaskDef};
+use std::marker::Model;
+
+/// A task's name: a lower-case letter, then at most 15 lower-case letters, digits or `_`.
+#[derive(Debug, Drop)]
+pub struct Name {
+    list: Vec<u8>,
+}
+
+impl Model for Name {
+    ghost use Rattle.std.specs.Prelude.{List, ℕ};
+
+    ghost Value = { List ℕ };
+
+    ghost view = { λ l. l.list.items };
+}
+
+impl Name {
+    /// These, in this order.
+    pub fn from_vec(list: Vec<u8>) -> Name
+        ensures { result ≡ list.items }
+    {
+        Name { list }
+    }
+
+    /// The vector that holds them.
+    pub fn into_vec(self) -> Vec<u8>
+        ensures { result.items ≡ self }
+    {
+        self.list
+    }
+
+    /// The list as a slice.
+    pub fn as_slice(&self) -> &[u8]
+        ensures { result.now ≡ self.now }
+    {
+        self.list.as_slice()
+    }
+}
+
+/// The actions of a row, in order.
+#[derive(Debug, Drop)]
+pub struct Actions {
+    list: Vec<Action>,
+}
+
+impl Model for Actions {
+    ghost use Rattle.std.specs.Prelude.{List};
+    ghost use Rattle.step_tables.specs.declared.tables.Action.{Action};
+
+    ghost Value = { List Action };
+
+    ghost view = { λ l. l.list.items };
+}
+
+impl Actions {
+    /// These, in this order.
+    pub fn from_vec(list: Vec<Action>) -> Actions
+        ensures { result ≡ list.items }
+    {
+        Actions { list }
+    }
+
+    /// The vector that holds them.
+    pub fn into_vec(self) -> Vec<Action>
+        ensures { result.items ≡ self }
+    {
+        self.list
+    }
+
+    /// The list as a slice.
+    pub fn as_slice(&self) -> &[Action]
+        ensures { result.now ≡ self.now }
+    {
+        self.list.as_slice()
+    }
+}
+
+/// The rows of a task, from row 0 on.
+#[derive(Debug, Drop)]
+pub struct Rows {
+    list: Vec<Row>,
+}
+
+impl Model for Rows {
+    ghost use Rattle.std.specs.Prelude.{List};
+    ghost use Rattle.step_tables.specs.declared.tables.Row.{Row};
+
+    ghost Value = { List Row };
+
+    ghost view = { λ l. l.list.items };
+}
+
+impl Rows {
+    /// These, in this order.
+    pub fn from_vec(list: Vec<Row>) -> Rows
+        ensures { result ≡ list.items }
+    {
+        Rows { list }
+    }
+
+    /// The vector that holds them.
+    pub fn into_vec(self) -> Vec<Row>
+        ensures { result.items ≡ self }
+    {
+        self.list
+    }
+
+    /// The list as a slice.
+    pub fn as_slice(&self) -> &[Row]
+        ensures { result.now ≡ self.now }
+    {
+        self.list.as_slice()
+    }
+}
+
+/// The tasks of a script, from task 0 on.
+#[derive(Debug, Drop)]
+pub struct Tasks {
+    list: Vec<TaskDef>,
+}
+
+impl Model for Tasks {
+    ghost use Rattle.std.specs.Prelude.{List};
+    ghost use Rattle.step_tables.specs.declared.tables.TaskDef.{TaskDef};
+
+    ghost Value = { List TaskDef };
+
+    ghost view = { λ l. l.list.items };
+}
+
+impl Tasks {
+    /// These, in this order.
+    pub fn from_vec(list: Vec<TaskDef>) -> Tasks
+        ensures { result ≡ list.items }
+    {
+        Tasks { list }
+    }
+
+    /// The vector that holds them.
+    pub fn into_vec(self) -> Vec<TaskDef>
+        ensures { result.items ≡ self }
+    {
+        self.list
+    }
+
+    /// The list as a slice.
+    pub fn as_slice(&self) -> &[TaskDef]
+        ensures { result.now ≡ self.now }
+    {
+        self.list.as_slice()
+    }
+}
+
+/// The events of a script, in their order.
+#[derive(Debug, Drop)]
+pub struct Events {
+    list: Vec<Event>,
+}
+
+impl Model for Events {
+    ghost use Rattle.std.specs.Prelude.{List};
+    ghost use Rattle.step_tables.specs.declared.tables.Event.{Event};
+
+    ghost Value = { List Event };
+
+    ghost view = { λ l. l.list.items };
+}
+
+impl Events {
+    /// These, in this order.
+    pub fn from_vec(list: Vec<Event>) -> Events
+        ensures { result ≡ list.items }
+    {
+        Events { list }
+    }
+
+    /// The vector that holds them.
+    pub fn into_vec(self) -> Vec<Event>
+        ensures { result.items ≡ self }
+    {
+        self.list
+    }
+
+    /// The list as a slice.
+    pub fn as_slice(&self) -> &[Event]
+        ensures { result.now ≡ self.now }
+    {
+        self.list.as_slice()
+    }
+}

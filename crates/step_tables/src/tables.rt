@@ -1,0 +1,82 @@
+//! The tables of a script.
+
+use crate::lists::{Actions, Events, Name, Rows, Tasks};
+use sched_base::{Class, Reasons, TaskId};
+
+/// One action of a row or an event.
+#[derive(Clone, Copy, Debug, PartialEq, Eq)]
+pub enum Action {
+    /// Wakes a task with reasons, at least one.
+    Wake(TaskId, Reasons),
+    /// Kills a task.
+    Kill(TaskId),
+}
+
+/// What a row does to its task's timer.
+#[derive(Clone, Copy, Debug, PartialEq, Eq)]
+pub enum Expiry {
+    /// Leaves the expiry as it is.
+    Keep,
+    /// Sets it to so many ticks from now, 1 to 1,073,741,824.
+    After(u32),
+    /// Makes it unset.
+    Never,
+}
+
+/// One row of a task: what one run of the task does, and the row of the run after it.
+#[derive(Debug, Drop)]
+pub struct Row {
+    /// At most 16 actions, made in order.
+    pub actions: Actions,
+    pub expiry: Expiry,
+    /// The number of the next row, below the task's number of rows.
+    pub next: u32,
+}
+
+/// Where a task's runs are made, and in which order it comes.
+#[derive(Clone, Copy, Debug, PartialEq, Eq)]
+pub enum Kind {
+    /// A task of one worker; nice is from -1,024 to 1,024, and less comes earlier.
+    Pinned { home: u32, nice: i32 },
+    /// A task that is dealt to some worker before each round.
+    Shared { nice: i32 },
+    /// A tasklet of one worker.
+    Tasklet { home: u32, class: Class },
+}
+
+/// One task of a script.
+#[derive(Debug, Drop)]
+pub struct TaskDef {
+    pub name: Name,
+    pub kind: Kind,
+    /// Whether the task is to run from the start on.
+    pub init: bool,
+    /// 1 to 64 rows.
+    pub rows: Rows,
+}
+
+/// An action that the injector makes in a round.
+#[derive(Clone, Copy, Debug, PartialEq, Eq)]
+pub struct Event {
+    pub round: u32,
+    pub action: Action,
+}
+
+/// A script: how many workers there are, how the rounds are timed, the tasks and the events.
+#[derive(Debug, Drop)]
+pub struct Script {
+    /// 1 to 16.
+    pub workers: u32,
+    /// How many tasks a turn may pick, 1 to 1,000.
+    pub depth: u32,
+    /// The tick of round 0, in milliseconds that wrap at 2^32.
+    pub start: u32,
+    /// Milliseconds from one round to the next, 1 to 1,048,576.
+    pub step: u32,
+    /// The most rounds that are run, 1 to 100,000.
+    pub rounds: u32,
+    /// At most 4,096 tasks.
+    pub tasks: Tasks,
+    /// At most 65,536 events, by rising rounds.
+    pub events: Events,
+}

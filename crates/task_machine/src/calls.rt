@@ -1,0 +1,42 @@
+//! The calls on shared task state, their replies, and the entries of a history.
+
+use crate::task::Seen;
+use sched_base::{CallerId, Reasons, TaskId};
+
+/// One call on shared task state.
+#[derive(Clone, Copy, Debug, PartialEq, Eq)]
+pub enum Call {
+    /// Adds reasons to a task.
+    Wake(TaskId, Reasons),
+    /// Marks a task as killed.
+    Kill(TaskId),
+    /// Puts a task that the caller has in its hands into a box.
+    Post(TaskId, u32),
+    /// Takes the tasks of a group, 64 tasks from `64 * group` on, out of the caller's own box.
+    Get(u32),
+    /// Takes a task that the caller has in its hands, to run it.
+    Take(TaskId),
+    /// Ends a task's run.
+    DropRun(TaskId),
+    /// Removes a task for good.
+    Retire(TaskId),
+}
+
+/// The answer to a call.
+#[derive(Clone, Copy, Debug, PartialEq, Eq)]
+pub enum Reply {
+    /// What the call saw of its task.
+    Task(Seen),
+    /// The tasks that a get took: bit b stands for task `64 * group + b`.
+    Group(u64),
+    /// Nothing to tell.
+    Done,
+}
+
+/// One entry of a history: who called, what, and the answer.
+#[derive(Clone, Copy, Debug, PartialEq, Eq)]
+pub struct Entry {
+    pub caller: CallerId,
+    pub call: Call,
+    pub reply: Reply,
+}

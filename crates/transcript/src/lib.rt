@@ -1,0 +1,2 @@
+//! The text of a run: its lines, and how they are written.
+#![tactic(auto)]
