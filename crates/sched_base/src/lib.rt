@@ -2,8 +2,16 @@
 //! classes, and streams of bytes that count their faults.
 #![tactic(auto)]
 
+mod gates;
+mod memory;
 mod names;
 mod reason_set;
+mod standard;
+mod streams;
 
+pub use gates::{Gate, OpenGate};
+pub use memory::{MemSink, MemSource};
 pub use names::{CallerId, Class, TaskId};
 pub use reason_set::Reasons;
+pub use standard::{StdSink, StdSource};
+pub use streams::{Failed, Sink, Source};

@@ -29,19 +29,30 @@ impl Model for Reasons {
 
 impl Reasons {
     pub const EMPTY: Reasons = Reasons { bits: 0 };
+
     pub const INIT: Reasons = Reasons { bits: 1 };
+
     pub const TIMER: Reasons = Reasons { bits: 2 };
+
     pub const IO: Reasons = Reasons { bits: 4 };
+
     pub const SIGNAL: Reasons = Reasons { bits: 8 };
+
     pub const MSG: Reasons = Reasons { bits: 16 };
+
     pub const RES: Reasons = Reasons { bits: 32 };
+
     pub const OTHER: Reasons = Reasons { bits: 64 };
 
     /// The set with these bits; none where bit 7 is set.
     pub fn from_bits(bits: u8) -> Option<Reasons>
         ensures { SomeIff result (bits < 128) bits }
     {
-        if bits < 128 { Some(Reasons { bits }) } else { None }
+        if bits < 128 {
+            Some(Reasons { bits })
+        } else {
+            None
+        }
     }
 
     /// The bits of the set, below 128.
@@ -56,7 +67,9 @@ impl Reasons {
     pub fn union(self, other: Reasons) -> Reasons
         ensures { result ≡ bit_or self other }
     {
-        Reasons { bits: self.bits | other.bits }
+        Reasons {
+            bits: self.bits | other.bits,
+        }
     }
 
     /// Whether no reason is in the set.
