@@ -1,0 +1,5 @@
+pub mod History
+pub mod Refusal
+pub mod Since
+pub mod Step
+pub mod Task

@@ -1,6 +1,6 @@
 //! The calls on shared task state, their replies, and the entries of a history.
 
-use crate::task::Seen;
+use crate::task::{Place, Seen};
 use sched_base::{CallerId, Reasons, TaskId};
 
 /// One call on shared task state.
@@ -39,4 +39,16 @@ pub struct Entry {
     pub caller: CallerId,
     pub call: Call,
     pub reply: Reply,
+}
+
+/// Why the machine does not allow an entry: the first of these that holds.
+#[derive(Clone, Copy, Debug, PartialEq, Eq)]
+pub enum NotLegal {
+    /// A task, box, group or caller number is out of range, a wake has no reason, or a get is not a
+    /// worker's.
+    Name,
+    /// The task is at this place, where the call does not fit.
+    Place(Place),
+    /// This is the right reply, and the entry has another.
+    Reply(Reply),
 }

@@ -1,10 +1,10 @@
 //! The sequential task machine: where a task stands, what a call does to it and what it answers.
 #![tactic(auto)]
 
-mod task;
 mod calls;
 mod entry_log;
+mod task;
 
-pub use calls::{Call, Entry, Reply};
+pub use calls::{Call, Entry, NotLegal, Reply};
 pub use entry_log::Log;
 pub use task::{Place, Seen, Stand, TaskState};
