@@ -1,0 +1,6 @@
+//! `taskrun`: runs scripts of tasks, and writes every call on shared task state with its reply.
+#![tactic(auto)]
+
+mod pieces;
+
+fn main() {}
