@@ -1,0 +1,5 @@
+pub mod Ticks
+pub mod RunList
+pub mod WaitList
+pub mod Sweep
+pub mod Classes
