@@ -1,0 +1,4 @@
+pub mod RunLines
+pub mod Spelling
+pub mod HasText
+pub mod Laws
