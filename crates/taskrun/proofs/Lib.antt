@@ -1,1 +1,4 @@
 pub mod Joined
+pub mod OneTask
+pub mod Went
+pub mod Acts
