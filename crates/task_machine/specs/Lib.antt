@@ -1,4 +1,5 @@
 pub mod History
+pub mod Logged
 pub mod Refusal
 pub mod Since
 pub mod Step

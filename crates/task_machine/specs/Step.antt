@@ -119,10 +119,14 @@ abbrev pub bit : Bool → ℕ
 bit true = 1
 bit false = 0
 
--- n is the word of group g of box b: bit j tells whether task 64 * g + j is in the box
+-- n is the word of group g of box b: bit j tells whether task 64 * g + j of the list is in the box
+abbrev pub IsBoxIn : List TaskState → ℕ → ℕ → ℕ → Type 0
+IsBoxIn ts b g n =
+    (n < 2 ^ 64) × ((j : ℕ) → j < 64 → bit_at n j ≡ bit (is_boxed b (slice_index_or ts (64 * g + j) resting).place))
+
+-- the same in a state
 abbrev pub IsBox : State → ℕ → ℕ → ℕ → Type 0
-IsBox s b g n =
-    (n < 2 ^ 64) × ((j : ℕ) → j < 64 → bit_at n j ≡ bit (is_boxed b (task_at s (64 * g + j)).place))
+IsBox s b g n = IsBoxIn s.tasks b g n
 
 -- column "reply": r is the answer to a call of caller k
 abbrev pub IsReply : State → CallerId → Call → Reply → Type 0

@@ -1,5 +1,8 @@
 //! The calls on shared task state, their replies, and the entries of a history.
 
+ghost use Rattle.std.specs.Prelude.{◌≡◌};
+ghost use Rattle.task_machine.specs.Step.{subject};
+
 use crate::task::{Place, Seen};
 use sched_base::{CallerId, Reasons, TaskId};
 
@@ -20,6 +23,23 @@ pub enum Call {
     DropRun(TaskId),
     /// Removes a task for good.
     Retire(TaskId),
+}
+
+impl Call {
+    /// The number of the task that the call names, or of the first task of the group.
+    pub(crate) fn subject(&self) -> usize
+        ensures { result ≡ subject self.now }
+    {
+        match *self {
+            Call::Wake(id, _)
+            | Call::Kill(id)
+            | Call::Post(id, _)
+            | Call::Take(id)
+            | Call::DropRun(id)
+            | Call::Retire(id) => id.0 as usize,
+            Call::Get(group) => 64 * group as usize,
+        }
+    }
 }
 
 /// The answer to a call.

@@ -1,0 +1,223 @@
+//! The machine: the states of all tasks, and one call after another.
+
+ghost use Rattle.std.specs.Prelude.{◌≡◌, ◌≤◌, ◌*◌, length, replicate, IfOk, IfErr, OnOk, OnErr, IsTrue};
+ghost use Rattle.task_machine.specs.Task.{resting, seated, seen_of};
+ghost use Rattle.task_machine.specs.Step.{State, task_at, put_task, subject, is_task, is_named, fits, IsReply, after, changed, moved, each, IsBox, IsBoxIn, AllRoom, Step, Roomy};
+ghost use Rattle.task_machine.specs.Refusal.{Refused};
+ghost use Rattle.task_machine.specs.declared.task.Place.TheVariants as places;
+ghost use Rattle.task_machine.specs.declared.calls.Call.TheVariants as calls;
+
+use crate::calls::{Call, Entry, NotLegal, Reply};
+use crate::task::{Place, Seen, TaskState};
+use sched_base::{CallerId, Reasons, TaskId};
+use std::alloc::{AllocError, Global};
+use std::marker::Model;
+
+/// How many tasks a group has.
+const GROUP: usize = 64;
+
+/// The states of all tasks. Callers are the workers from 0 on, and after the last worker the
+/// injector; box b is worker b's, and the shared box has the number of workers. Contracts see the
+/// number of workers and the list of the tasks' states.
+#[derive(Drop)]
+pub struct Machine {
+    workers: u32,
+    tasks: Vec<TaskState>,
+}
+
+impl Model for Machine {
+    ghost use Rattle.std.specs.Prelude.{◌≤◌, length};
+    ghost use Rattle.task_machine.specs.Step.{State};
+
+    ghost Value = { State };
+
+    ghost view = { λ m. record { workers = m.workers; tasks = m.tasks.items } };
+
+    ghost invariant = { λ m. (m.workers ≤ 64) × (length m.tasks.items ≤ 65536) };
+}
+
+impl Machine {
+    /// A machine whose tasks all rest. At most 65,536 tasks, and 1 to 64 workers.
+    pub fn new(alloc: Global, tasks: u32, workers: u32) -> Result<Machine, AllocError>
+        requires few_tasks { tasks ≤ 65536 }
+        requires some_workers { 1 ≤ workers }
+        requires few_workers { workers ≤ 64 }
+        ensures { IfOk result (λ m. m ≡ record { workers = workers; tasks = replicate tasks resting }) }
+    {
+        let mut states = Vec::new(alloc);
+        states.resize(tasks as usize, TaskState::RESTING)?;
+        Ok(Machine {
+            workers,
+            tasks: states,
+        })
+    }
+
+    /// Puts a task that was never woken into a box, with the reason init.
+    pub fn seat_init(&mut self, id: TaskId, boxno: u32)
+        requires exists { IsTrue (is_task self.old id.0) }
+        requires box_exists { boxno ≤ self.old.workers }
+        requires rests { (task_at self.old id.0).place ≡ places.Rest }
+        requires untaken { (task_at self.old id.0).takes ≡ 0 }
+        ensures { self.new ≡ put_task self.old id.0 (seated boxno (task_at self.old id.0)) }
+    {
+        let task = &mut self.tasks[id.0 as usize];
+        task.post(boxno);
+        task.pending = Reasons::INIT;
+    }
+
+    /// What a call would see of a task.
+    pub fn seen(&self, id: TaskId) -> Seen
+        requires { IsTrue (is_task self.now id.0) }
+        ensures { result ≡ seen_of (task_at self.now id.0) }
+    {
+        self.tasks[id.0 as usize].seen()
+    }
+
+    /// Where a task is.
+    pub fn place(&self, id: TaskId) -> Place
+        requires { IsTrue (is_task self.now id.0) }
+        ensures { result ≡ (task_at self.now id.0).place }
+    {
+        self.tasks[id.0 as usize].place
+    }
+
+    /// Which tasks of a group are in a box: bit j stands for task `64 * group + j`.
+    pub fn box_group(&self, boxno: u32, group: u32) -> u64
+        requires exists { IsTrue (is_task self.now (64 * group)) }
+        requires box_exists { boxno ≤ self.now.workers }
+        ensures { IsBox self.now boxno group result }
+    {
+        group_word(self.tasks.as_slice(), boxno, group)
+    }
+
+    /// Makes one call, if the machine allows the entry: the names are there, the task is where it
+    /// must be, and the reply is the right one. Otherwise the first cause of these is the answer,
+    /// and the machine is as before.
+    pub fn apply(&mut self, entry: &Entry) -> Result<(), NotLegal>
+        requires { AllRoom self.old }
+        ensures step { OnOk result (Step self.old entry.now self.new) }
+        ensures cause { IfErr result (λ e. Refused self.old entry.now e) }
+        ensures unchanged { OnErr result (self.new ≡ self.old) }
+    {
+        let Entry {
+            caller,
+            call,
+            reply,
+        } = *entry;
+        if !self.names(caller, &call) {
+            return Err(NotLegal::Name);
+        }
+        if !self.fits(caller, &call) {
+            return Err(NotLegal::Place(self.tasks[call.subject()].place));
+        }
+        let right = self.reply(caller, &call);
+        if reply != right {
+            return Err(NotLegal::Reply(right));
+        }
+        self.change(caller, &call);
+        Ok(())
+    }
+
+    /// Whether all that the caller names in a call is there.
+    fn names(&self, caller: CallerId, call: &Call) -> bool
+        ensures { result ≡ is_named self.now caller call.now }
+    {
+        caller.0 <= self.workers
+            && call.subject() < self.tasks.len()
+            && match *call {
+                Call::Wake(_, reasons) => !reasons.is_empty(),
+                Call::Post(_, boxno) => boxno <= self.workers,
+                Call::Get(_) => caller.0 < self.workers,
+                Call::Kill(_) | Call::Take(_) | Call::DropRun(_) | Call::Retire(_) => true,
+            }
+    }
+
+    /// Whether the task that a call names is where the call needs it.
+    fn fits(&self, caller: CallerId, call: &Call) -> bool
+        requires { IsTrue (is_named self.now caller call.now) }
+        ensures { result ≡ fits self.now caller call.now }
+    {
+        let place = self.tasks[call.subject()].place;
+        match *call {
+            Call::Wake(..) | Call::Kill(_) | Call::Get(_) => true,
+            Call::Post(..) | Call::Take(_) => place.is_in_hands_of(caller),
+            Call::DropRun(_) => place.is_run_by(caller),
+            Call::Retire(_) => place.is_in_hands_of(caller) || place.is_run_by(caller),
+        }
+    }
+
+    /// The right reply to a call.
+    fn reply(&self, caller: CallerId, call: &Call) -> Reply
+        requires { IsTrue (is_named self.now caller call.now) }
+        ensures { IsReply self.now caller call.now result }
+    {
+        match *call {
+            Call::Post(..) => Reply::Done,
+            Call::Get(group) => Reply::Group(self.box_group(caller.0, group)),
+            Call::Wake(id, _)
+            | Call::Kill(id)
+            | Call::Take(id)
+            | Call::DropRun(id)
+            | Call::Retire(id) => Reply::Task(self.seen(id)),
+        }
+    }
+
+    /// Makes the change of a call.
+    fn change(&mut self, caller: CallerId, call: &Call)
+        requires named { IsTrue (is_named self.old caller call.now) }
+        requires room { Roomy call.now (task_at self.old (subject call.now)) }
+        ensures { self.new ≡ after self.old caller call.now }
+    {
+        if let Call::Get(group) = *call {
+            get_group(self.tasks.as_mut_slice(), caller, group);
+            return;
+        }
+        let task = &mut self.tasks[call.subject()];
+        change_task(task, caller, call);
+    }
+}
+
+/// Makes the change of a call to a task that the call is about.
+fn change_task(task: &mut TaskState, caller: CallerId, call: &Call)
+    requires { Roomy call.now task.old }
+    ensures { task.new ≡ changed caller call.now task.old }
+{
+    match *call {
+        Call::Wake(_, reasons) => task.wake(caller, reasons),
+        Call::Kill(_) => task.kill(caller),
+        Call::Post(_, boxno) => task.post(boxno),
+        Call::Get(_) => task.get(caller),
+        Call::Take(_) => task.take(caller),
+        Call::DropRun(_) => task.drop_run(caller),
+        Call::Retire(_) => task.retire(),
+    }
+}
+
+/// The word of a group of these tasks in a box: bit j stands for task `64 * group + j`.
+fn group_word(tasks: &[TaskState], boxno: u32, group: u32) -> u64
+    requires { 64 * group ≤ length tasks.now }
+    ensures { IsBoxIn tasks.now boxno group result }
+{
+    let first = GROUP * group as usize;
+    let end = tasks.len().min(first + GROUP);
+    let mut word = 0;
+    for i in first..end {
+        if tasks[i].place.is_in_box(boxno) {
+            word |= 1u64 << (i - first);
+        }
+    }
+    word
+}
+
+/// Moves the tasks of a group that are in the caller's box into its hands.
+fn get_group(tasks: &mut [TaskState], caller: CallerId, group: u32)
+    requires { 64 * group ≤ length tasks.old }
+    ensures { tasks.new ≡ each (moved caller (calls.Get group)) 0 tasks.old }
+{
+    let first = GROUP * group as usize;
+    let end = tasks.len().min(first + GROUP);
+    for i in first..end {
+        let task = &mut tasks[i];
+        task.get(caller);
+    }
+}
