@@ -1,9 +1,10 @@
 //! Scripts: the tables of tasks, rows and events that a run follows, and their text.
 #![tactic(auto)]
 
-mod lists;
-mod tables;
 mod faults;
+mod lists;
+mod progress;
+mod tables;
 
 pub use faults::{ScriptError, ScriptFault};
 pub use lists::{Actions, Events, Name, Rows, Tasks};

@@ -1,8 +1,9 @@
 //! The lists of a script. Contracts see each as the list that it holds.
 
-ghost use Rattle.std.specs.Prelude.{◌≡◌, List};
+ghost use Rattle.std.specs.Prelude.{◌≡◌, List, []};
 
 use crate::tables::{Action, Event, Row, TaskDef};
+use std::alloc::Global;
 use std::marker::Model;
 
 /// A task's name: a lower-case letter, then at most 15 lower-case letters, digits or `_`.
@@ -191,5 +192,30 @@ impl Events {
         ensures { result.now ≡ self.now }
     {
         self.list.as_slice()
+    }
+}
+
+/// The numbers of rows that the lines of tasks promise.
+#[derive(Debug, Drop)]
+pub(crate) struct Counts {
+    list: Vec<u32>,
+}
+
+impl Model for Counts {
+    ghost use Rattle.std.specs.Prelude.{List, ℕ};
+
+    ghost Value = { List ℕ };
+
+    ghost view = { λ l. l.list.items };
+}
+
+impl Counts {
+    /// No numbers.
+    pub fn new(alloc: Global) -> Counts
+        ensures { result ≡ [] }
+    {
+        Counts {
+            list: Vec::new(alloc),
+        }
     }
 }

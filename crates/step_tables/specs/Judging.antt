@@ -1,0 +1,320 @@
+-- What the lines of a script make, which fault a line has, and the script of a text: docs/SCRIPT.md, "Order" and "Faults".
+use Rattle.std.specs.Prelude.{ℕ, ◌+◌, ◌-◌, ℤ, pos, negsuc, int_lt, Bool, true, false, not, ◌&&◌, ◌||◌, List, [], ◌∷◌, ◌++◌, map, length, take, Option, Some, None, Result, Ok, Err, option_map, is_none, unwrap_or, ◌==◌, nat_lt, nat_le, bytes_eq, count_by, position, slice_get, slice_index, slice_set, if◌then◌else◌}
+use Rattle.std.specs.List.{list_any}
+use Rattle.step_tables.specs.declared.tables.Action.{Action}
+use Rattle.step_tables.specs.declared.tables.Action.TheVariants.{Wake, Kill}
+use Rattle.step_tables.specs.declared.tables.Expiry.{Expiry}
+use Rattle.step_tables.specs.declared.tables.Expiry.TheVariants.{Keep, After, Never}
+use Rattle.step_tables.specs.declared.tables.Kind.{Kind}
+use Rattle.step_tables.specs.declared.tables.Kind.TheVariants.{Pinned, Shared, Tasklet}
+use Rattle.step_tables.specs.declared.tables.Row.{Row}
+use Rattle.step_tables.specs.declared.tables.TaskDef.{TaskDef}
+use Rattle.step_tables.specs.declared.tables.Event.{Event}
+use Rattle.step_tables.specs.declared.tables.Script.{Script}
+use Rattle.step_tables.specs.declared.faults.ScriptFault.{ScriptFault}
+use Rattle.step_tables.specs.declared.progress.Progress.{Progress}
+use Rattle.step_tables.specs.Words.{Word, ◌>>=◌, ◌is◌, pieces, is_empty, words_of, number_of, signed_of}
+use Rattle.step_tables.specs.Shapes as shapes
+use Rattle.step_tables.specs.Shapes.{Order, Delay, Place, Setting, TaskLine, RowLine, EventLine, Said, setting_line, body_line}
+
+-- nothing is read so far
+abbrev pub nothing : Progress
+nothing = record { workers = 0; depth = 0; start = 0; step = 0; rounds = 0; tasks = []; counts = []; at = 0; events = []; ended = false }
+
+-- the number of a word, where it writes one
+unfoldable pub value : Word → ℕ
+value w = unwrap_or (number_of w) 0
+
+-- the signed number of a word, where it writes one
+unfoldable pub signed_value : Word → ℤ
+signed_value w = unwrap_or (signed_of w) (pos 0)
+
+-- whether the word writes no number
+unfoldable pub no_number : Word → Bool
+no_number w = is_none (number_of w)
+
+-- whether the word writes no signed number
+unfoldable pub no_signed : Word → Bool
+no_signed w = is_none (signed_of w)
+
+-- whether n is not from low to high
+abbrev pub outside : ℕ → ℕ → ℕ → Bool
+outside low high n = nat_lt n low || nat_lt high n
+
+-- whether n is no nice
+abbrev pub outside_nice : ℤ → Bool
+outside_nice n = int_lt n (negsuc 1023) || int_lt (pos 1024) n
+
+-- the number of the task of this name
+unfoldable pub named : List TaskDef → Word → Option ℕ
+named tasks name = position (λ task. bytes_eq task.name name) tasks
+
+-- whether no task has this name
+unfoldable pub unknown : List TaskDef → Word → Bool
+unknown tasks name = is_none (named tasks name)
+
+-- the name in an action
+abbrev pub order_name : Order → Word
+order_name (shapes.wakes name bits) = name
+order_name (shapes.kills name) = name
+
+-- the task whose rows come now
+abbrev pub due : Progress → Option TaskDef
+due p = slice_get p.tasks p.at
+
+-- how many rows its line promised
+abbrev pub promised : Progress → ℕ
+promised p = slice_index p.counts p.at
+
+-- how many rows the task has so far
+abbrev pub rows_made : Option TaskDef → ℕ
+rows_made None = 0
+rows_made (Some task) = length task.rows
+
+-- whether no row has come
+abbrev pub no_row : Progress → Bool
+no_row p = p.at == 0 && rows_made (due p) == 0
+
+-- whether each task has all its rows
+abbrev pub all_rows : Progress → Bool
+all_rows p = p.at == length p.tasks
+
+-- whether what the line says may come now
+abbrev pub may_come : Progress → Said → Bool
+may_come p (shapes.sets setting w) = true
+may_come p (shapes.task line) = no_row p && is_empty p.events
+may_come p (shapes.row line) = not (all_rows p)
+may_come p (shapes.event line) = all_rows p
+may_come p shapes.ends = all_rows p
+
+-- the least and the most that a setting may be
+abbrev pub least : Setting → ℕ
+least shapes.workers = 1
+least shapes.depth = 1
+least shapes.start = 0
+least shapes.step = 1
+least shapes.rounds = 1
+
+abbrev pub most : Setting → ℕ
+most shapes.workers = 16
+most shapes.depth = 1000
+most shapes.start = 4294967295
+most shapes.step = 1048576
+most shapes.rounds = 100000
+
+-- whether a word in a number's place of the place writes none
+unfoldable pub place_no_number : Place → Bool
+place_no_number (shapes.pinned home nice) = no_number home || no_signed nice
+place_no_number (shapes.shared nice) = no_signed nice
+place_no_number (shapes.tasklet home class) = no_number home
+
+-- whether a number of the place is out of its range
+unfoldable pub place_outside : ℕ → Place → Bool
+place_outside workers (shapes.pinned home nice) = nat_le workers (value home) || outside_nice (signed_value nice)
+place_outside workers (shapes.shared nice) = outside_nice (signed_value nice)
+place_outside workers (shapes.tasklet home class) = nat_le workers (value home)
+
+-- the same of an expiry
+unfoldable pub delay_no_number : Delay → Bool
+delay_no_number shapes.keeps = false
+delay_no_number (shapes.after w) = no_number w
+delay_no_number shapes.never = false
+
+unfoldable pub delay_outside : Delay → Bool
+delay_outside shapes.keeps = false
+delay_outside (shapes.after w) = outside 1 1073741824 (value w)
+delay_outside shapes.never = false
+
+-- whether the row is not the one that must come next, or its next row is none of its task's
+abbrev pub wrong_target : Progress → Option TaskDef → RowLine → Bool
+wrong_target p None line = true
+wrong_target p (Some task) line = not (bytes_eq task.name line.name) || (not (value line.number == length task.rows) || nat_le (promised p) (value line.next))
+
+-- whether the kind of task has no timer
+abbrev pub is_timerless : Kind → Bool
+is_timerless (Pinned home nice) = false
+is_timerless (Shared nice) = true
+is_timerless (Tasklet home class) = true
+
+-- whether an expiry stands
+abbrev pub is_expiry : Delay → Bool
+is_expiry shapes.keeps = false
+is_expiry (shapes.after w) = true
+is_expiry shapes.never = true
+
+-- whether a row of this task has an expiry that it may not have
+abbrev pub barred : Option TaskDef → Delay → Bool
+barred None delay = false
+barred (Some task) delay = is_timerless task.kind && is_expiry delay
+
+-- the round of the last event, or 0
+abbrev pub last_round : List Event → ℕ
+last_round events = unwrap_or (option_map (λ event. event.round) (slice_get events (length events - 1))) 0
+
+-- the first kind whose test holds
+abbrev pub first_fault : List (ℕ × Bool) → Option ℕ
+first_fault [] = None
+first_fault (test ∷ tests) = if test.1 then Some test.0 else first_fault tests
+
+-- the kinds of fault that a line may have beside the test of each, the lowest first
+abbrev pub setting_tests : Setting → Word → List (ℕ × Bool)
+setting_tests setting w = (3, no_number w) ∷ (8, outside (least setting) (most setting) (value w)) ∷ []
+
+abbrev pub task_tests : Progress → TaskLine → List (ℕ × Bool)
+task_tests p line =
+    (3, place_no_number line.place || no_number line.rows)
+    ∷ (5, not (unknown p.tasks line.name))
+    ∷ (8, place_outside p.workers line.place || (outside 1 64 (value line.rows) || nat_le 4096 (length p.tasks)))
+    ∷ []
+
+abbrev pub row_tests : Progress → RowLine → List (ℕ × Bool)
+row_tests p line =
+    (3, no_number line.number || (delay_no_number line.delay || no_number line.next))
+    ∷ (4, unknown p.tasks line.name || list_any (λ order. unknown p.tasks (order_name order)) line.orders)
+    ∷ (6, wrong_target p (due p) line)
+    ∷ (7, barred (due p) line.delay)
+    ∷ (8, nat_lt 16 (length line.orders) || delay_outside line.delay)
+    ∷ []
+
+abbrev pub event_tests : Progress → EventLine → List (ℕ × Bool)
+event_tests p line =
+    (3, no_number line.round)
+    ∷ (4, unknown p.tasks (order_name line.order))
+    ∷ (8, nat_le p.rounds (value line.round) || (nat_le 65536 (length p.events) || nat_lt (value line.round) (last_round p.events)))
+    ∷ []
+
+abbrev pub tests : Progress → Said → List (ℕ × Bool)
+tests p (shapes.sets setting w) = setting_tests setting w
+tests p (shapes.task line) = task_tests p line
+tests p (shapes.row line) = row_tests p line
+tests p (shapes.event line) = event_tests p line
+tests p shapes.ends = []
+
+-- the parts of the tables that a line adds
+unfoldable pub kind_of : Place → Kind
+kind_of (shapes.pinned home nice) = Pinned (value home) (signed_value nice)
+kind_of (shapes.shared nice) = Shared (signed_value nice)
+kind_of (shapes.tasklet home class) = Tasklet (value home) class
+
+unfoldable pub task_of : TaskLine → TaskDef
+task_of line = record { name = line.name; kind = kind_of line.place; init = line.init; rows = [] }
+
+-- the number of the task of this name, which there is
+unfoldable pub number_named : List TaskDef → Word → ℕ
+number_named tasks name = unwrap_or (named tasks name) 0
+
+unfoldable pub action_of : List TaskDef → Order → Action
+action_of tasks (shapes.wakes name bits) = Wake (record { 0 = number_named tasks name }) bits
+action_of tasks (shapes.kills name) = Kill (record { 0 = number_named tasks name })
+
+unfoldable pub expiry_of : Delay → Expiry
+expiry_of shapes.keeps = Keep
+expiry_of (shapes.after w) = After (value w)
+expiry_of shapes.never = Never
+
+unfoldable pub row_of : List TaskDef → RowLine → Row
+row_of tasks line = record { actions = map (action_of tasks) line.orders; expiry = expiry_of line.delay; next = value line.next }
+
+unfoldable pub event_of : List TaskDef → EventLine → Event
+event_of tasks line = record { round = value line.round; action = action_of tasks line.order }
+
+-- what is read so far, with one line more
+unfoldable pub with_setting : Progress → Setting → ℕ → Progress
+with_setting p shapes.workers n = record p { workers = n }
+with_setting p shapes.depth n = record p { depth = n }
+with_setting p shapes.start n = record p { start = n }
+with_setting p shapes.step n = record p { step = n }
+with_setting p shapes.rounds n = record p { rounds = n }
+
+unfoldable pub with_task : Progress → TaskLine → Progress
+with_task p line = record p { tasks = p.tasks ++ task_of line ∷ []; counts = p.counts ++ value line.rows ∷ [] }
+
+-- the task with a row more
+unfoldable pub with_row_at_end : TaskDef → Row → TaskDef
+with_row_at_end task row = record task { rows = task.rows ++ row ∷ [] }
+
+-- the row goes to the task whose rows come now, and behind its last row the next task's rows come
+unfoldable pub with_row : Progress → Option TaskDef → Row → Progress
+with_row p None row = p
+with_row p (Some task) row = record p {
+  tasks = slice_set p.tasks p.at (with_row_at_end task row);
+  at = if length task.rows + 1 == promised p then p.at + 1 else p.at;
+}
+
+unfoldable pub with_event : Progress → EventLine → Progress
+with_event p line = record p { events = p.events ++ event_of p.tasks line ∷ [] }
+
+unfoldable pub with_line : Progress → Said → Progress
+with_line p (shapes.sets setting w) = with_setting p setting (value w)
+with_line p (shapes.task line) = with_task p line
+with_line p (shapes.row line) = with_row p (due p) (row_of p.tasks line)
+with_line p (shapes.event line) = with_event p line
+with_line p shapes.ends = record p { ended = true }
+
+-- the lowest kind, or what is read with this line
+unfoldable pub judge_tested : Option ℕ → Progress → Result Progress ℕ
+judge_tested None p = Ok p
+judge_tested (Some kind) p = Err kind
+
+-- a line whose words say this, or fit no shape
+unfoldable pub judge_said : Progress → Option Said → Result Progress ℕ
+judge_said p None = Err 2
+judge_said p (Some said) = if may_come p said then judge_tested (first_fault (tests p said)) (with_line p said) else Err 2
+
+-- the setting whose line this is
+unfoldable pub setting_at : ℕ → Option Setting
+setting_at line = slice_get (shapes.workers ∷ shapes.depth ∷ shapes.start ∷ shapes.step ∷ shapes.rounds ∷ []) (line - 2)
+
+-- what the words say, in the line of a setting or after those
+unfoldable pub said_in : Option Setting → List Word → Option Said
+said_in None ws = body_line ws
+said_in (Some setting) ws = setting_line setting ws
+
+-- a complete line: the kind of its fault, or what is read with it
+unfoldable pub judge : ℕ → Progress → List ℕ → Result Progress ℕ
+judge n p line = if n == 1
+    then (if line is "taskscript 1" then Ok p else Err 1)
+    else judge_said p (words_of line >>= said_in (setting_at n))
+
+-- the most bytes that a script may have
+abbrev pub byte_limit : ℕ
+byte_limit = 4194304
+
+-- the line in which the byte behind the limit stands
+unfoldable pub long_line : ℕ → List ℕ → Option ℕ
+long_line limit bytes = if nat_lt limit (length bytes) then Some (1 + count_by (λ b. b == 10) (take limit bytes)) else None
+
+-- whether this line is that one
+abbrev pub is_line : Option ℕ → ℕ → Bool
+is_line None n = false
+is_line (Some long) n = long == n
+
+abbrev pub fault : ℕ → ℕ → ScriptFault
+fault line kind = record { line = line; kind = kind }
+
+-- the script that is read
+unfoldable pub script_from : Progress → Script
+script_from p = record { workers = p.workers; depth = p.depth; start = p.start; step = p.step; rounds = p.rounds; tasks = p.tasks; events = p.events }
+
+-- the line's fault, or what the next lines make
+abbrev pub go_on : ℕ → Result Progress ℕ → (Progress → Result Script ScriptFault) → Result Script ScriptFault
+go_on n (Ok p) more = more p
+go_on n (Err kind) more = Err (fault n kind)
+
+-- the lines from number n on, of which the last is the open piece
+unfoldable pub judged : Option ℕ → ℕ → Progress → List (List ℕ) → Result Script ScriptFault
+judged long n p [] = Err (fault n 9)
+judged long n p (line ∷ []) = if p.ended
+    then (if is_empty line then Ok (script_from p) else Err (fault n 2))
+    else Err (fault n (if is_line long n then 8 else 9))
+judged long n p (line ∷ next ∷ lines) = if p.ended
+    then Err (fault n 2)
+    else (if is_line long n then Err (fault n 8) else go_on n (judge n p line) (λ q. judged long (n + 1) q (next ∷ lines)))
+
+-- the script of a text of at most so many bytes
+unfoldable pub script_within : ℕ → List ℕ → Result Script ScriptFault
+script_within limit bytes = judged (long_line limit bytes) 1 nothing (pieces 10 bytes)
+
+-- the script of a text, or the line and the kind of its first fault; no byte further behind the limit counts
+unfoldable pub script_of : List ℕ → Result Script ScriptFault
+script_of bytes = script_within byte_limit (take (byte_limit + 1) bytes)

@@ -1,0 +1,105 @@
+-- Which tables are a script's: docs/SCRIPT.md, "Tables".
+use Rattle.std.specs.Prelude.{ℕ, ℤ, pos, negsuc, int_lt, Bool, true, false, not, ◌&&◌, List, [], ◌∷◌, length, bytes_eq, ◌==◌, nat_lt, nat_le}
+use Rattle.std.specs.List.{list_all, list_any}
+use Rattle.step_tables.specs.declared.tables.Action.{Action}
+use Rattle.step_tables.specs.declared.tables.Action.TheVariants.{Wake, Kill}
+use Rattle.step_tables.specs.declared.tables.Expiry.{Expiry}
+use Rattle.step_tables.specs.declared.tables.Expiry.TheVariants.{Keep, After, Never}
+use Rattle.step_tables.specs.declared.tables.Kind.{Kind}
+use Rattle.step_tables.specs.declared.tables.Kind.TheVariants.{Pinned, Shared, Tasklet}
+use Rattle.step_tables.specs.declared.tables.Row.{Row}
+use Rattle.step_tables.specs.declared.tables.TaskDef.{TaskDef}
+use Rattle.step_tables.specs.declared.tables.Event.{Event}
+use Rattle.step_tables.specs.declared.tables.Script.{Script}
+use Rattle.step_tables.specs.Words.{is_empty, is_name}
+
+-- whether n is from low to high
+abbrev pub within : ℕ → ℕ → ℕ → Bool
+within low high n = nat_le low n && nat_le n high
+
+-- whether n is a nice
+abbrev pub is_nice : ℤ → Bool
+is_nice n = not (int_lt n (negsuc 1023)) && not (int_lt (pos 1024) n)
+
+-- whether the action names one of so many tasks, and a wake has a reason
+abbrev pub is_sound_action : ℕ → Action → Bool
+is_sound_action tasks (Wake i reasons) = nat_lt i.0 tasks && within 1 127 reasons
+is_sound_action tasks (Kill i) = nat_lt i.0 tasks
+
+-- whether such a task may have the expiry, and it is in its range
+abbrev pub is_sound_expiry : Kind → Expiry → Bool
+is_sound_expiry kind Keep = true
+is_sound_expiry (Pinned home nice) (After ticks) = within 1 1073741824 ticks
+is_sound_expiry (Pinned home nice) Never = true
+is_sound_expiry (Shared nice) (After ticks) = false
+is_sound_expiry (Shared nice) Never = false
+is_sound_expiry (Tasklet home class) (After ticks) = false
+is_sound_expiry (Tasklet home class) Never = false
+
+-- whether a row of a task with so many rows is in range, among so many tasks
+abbrev pub is_sound_row : ℕ → Kind → ℕ → Row → Bool
+is_sound_row tasks kind rows row = nat_le (length row.actions) 16 && (list_all (is_sound_action tasks) row.actions && (is_sound_expiry kind row.expiry && nat_lt row.next rows))
+
+-- whether a task's home is a worker's number and its nice is in range
+abbrev pub is_sound_kind : ℕ → Kind → Bool
+is_sound_kind workers (Pinned home nice) = nat_lt home workers && is_nice nice
+is_sound_kind workers (Shared nice) = is_nice nice
+is_sound_kind workers (Tasklet home class) = nat_lt home workers
+
+-- whether a task is in range, among so many tasks
+abbrev pub is_sound_task : ℕ → ℕ → TaskDef → Bool
+is_sound_task workers tasks task = is_name task.name && (is_sound_kind workers task.kind && (within 1 64 (length task.rows) && list_all (is_sound_row tasks task.kind (length task.rows)) task.rows))
+
+-- whether no two tasks have one name
+abbrev pub distinct_names : List TaskDef → Bool
+distinct_names [] = true
+distinct_names (task ∷ tasks) = not (list_any (λ other. bytes_eq task.name other.name) tasks) && distinct_names tasks
+
+-- whether the events come by rising rounds, the first not before this one and each below the last
+abbrev pub rising_below : ℕ → ℕ → List Event → Bool
+rising_below from rounds [] = true
+rising_below from rounds (event ∷ events) = nat_le from event.round && (nat_lt event.round rounds && rising_below event.round rounds events)
+
+-- whether these are the tables of a script
+unfoldable pub is_sound : Script → Bool
+is_sound s =
+    within 1 16 s.workers && (within 1 1000 s.depth && (nat_le s.start 4294967295 && (within 1 1048576 s.step && (within 1 100000 s.rounds
+    && (nat_le (length s.tasks) 4096 && (list_all (is_sound_task s.workers (length s.tasks)) s.tasks && (distinct_names s.tasks
+    && (nat_le (length s.events) 65536 && (list_all (λ event. is_sound_action (length s.tasks) event.action) s.events && rising_below 0 s.rounds s.events)))))))))
+
+-- whether it is 0
+abbrev pub is_zero : ℤ → Bool
+is_zero (pos n) = n == 0
+is_zero (negsuc n) = false
+
+-- whether a task is pinned to worker 0 at nice 0
+abbrev pub is_plain_kind : Kind → Bool
+is_plain_kind (Pinned home nice) = home == 0 && is_zero nice
+is_plain_kind (Shared nice) = false
+is_plain_kind (Tasklet home class) = false
+
+-- whether the row leaves the timer alone
+abbrev pub is_keep : Expiry → Bool
+is_keep Keep = true
+is_keep (After ticks) = false
+is_keep Never = false
+
+-- whether there is one row, and it leaves the timer alone
+abbrev pub has_plain_row : List Row → Bool
+has_plain_row [] = false
+has_plain_row (row ∷ []) = is_keep row.expiry
+has_plain_row (row ∷ other ∷ rows) = false
+
+-- whether a task is pinned to worker 0 at nice 0, with one row that leaves the timer alone
+abbrev pub is_plain_task : TaskDef → Bool
+is_plain_task task = is_plain_kind task.kind && has_plain_row task.rows
+
+-- whether there is no task, or a plain one
+abbrev pub has_plain_task : List TaskDef → Bool
+has_plain_task [] = true
+has_plain_task (task ∷ []) = is_plain_task task
+has_plain_task (task ∷ other ∷ tasks) = false
+
+-- whether the script is of the form that the first runs take: one worker, no event, and no task or a plain one
+unfoldable pub is_first_form : Script → Bool
+is_first_form s = s.workers == 1 && (is_empty s.events && has_plain_task s.tasks)
