@@ -1,5 +1,5 @@
 -- What stands in front of a list stays there.
-use Rattle.std.proofs.Common.{◌≡◌, ℕ, ◌≤◌, List, [], ◌∷◌, ◌++◌, length, take, refl, ap, ◌∙◌, sym, arith, rules}
+use Rattle.std.proofs.Common.{ℕ, ◌≤◌, List, length, take, ap, ◌∙◌, sym, arith}
 use Rattle.std.proofs.lemmas.List.{take_all, take-take, length-take}
 use Rattle.transcript.specs.Added.{Kept}
 

@@ -1,9 +1,11 @@
 //! The text of a run: its lines, and how they are written.
 #![tactic(auto)]
 
+mod laws;
 mod lines;
 mod put_words;
-mod laws;
+mod writer;
 
 pub use laws::text_in_pieces;
 pub use lines::Line;
+pub use writer::{write_end, write_head, write_round};
