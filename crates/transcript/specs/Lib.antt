@@ -2,3 +2,4 @@ pub mod RunLines
 pub mod Spelling
 pub mod HasText
 pub mod Laws
+pub mod Added

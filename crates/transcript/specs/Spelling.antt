@@ -105,9 +105,13 @@ text_of run = spelled first_words ++ flat_map line_text (lines_of_run run)
 unfoldable pub head_text : List ℕ
 head_text = spelled first_words
 
+-- an entry as text
+abbrev pub entry_text : Entry → List ℕ
+entry_text e = spelled (entry_words e)
+
 -- the entries of a round, a line each
 unfoldable pub entries_text : List Entry → List ℕ
-entries_text entries = flat_map (λ e. line_text (line.Entry e)) entries
+entries_text entries = flat_map entry_text entries
 
 -- a round: its own line, and its entries
 unfoldable pub round_text : ℕ → ℕ → List Entry → List ℕ

@@ -3,6 +3,9 @@
 
 mod laws;
 mod lines;
+mod put_words;
+mod writer;
 
 pub use laws::text_in_pieces;
 pub use lines::Line;
+pub use writer::{write_end, write_head, write_round};
