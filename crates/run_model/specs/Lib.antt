@@ -6,3 +6,6 @@ pub mod Book
 pub mod Turn
 pub mod Standing
 pub mod Lawful
+pub mod Reader
+pub mod TurnReader
+pub mod IsLawful

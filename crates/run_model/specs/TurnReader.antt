@@ -1,0 +1,70 @@
+-- The reader of a turn, part by part (docs/MODEL.md, "A test for lawful runs").
+use Rattle.std.specs.Prelude.{ℕ, zero, suc, ◌+◌, ◌==◌, Option, None, Some, List, [], ◌∷◌, if◌then◌else◌}
+use Rattle.std.specs.List.{range_with_len}
+use Rattle.sched_base.specs.declared.names.CallerId.{CallerId}
+use Rattle.queue_model.specs.Classes.{Classes, Next, quotas, spent, next_run}
+use Rattle.queue_model.specs.Sweep.{fired, swept}
+use Rattle.step_tables.specs.declared.tables.Action.{Action}
+use Rattle.step_tables.specs.declared.tables.Row.{Row}
+use Rattle.step_tables.specs.declared.tables.Script.{Script}
+use Rattle.task_machine.specs.declared.calls.Entry.{Entry}
+use Rattle.task_machine.specs.declared.calls.Call.TheVariants.{Wake, Post, Get, Take, DropRun, Retire}
+use Rattle.run_model.specs.Reader.{Got, Reader, quietly, nothing, in_turn, asking, making, either, from_book, one_each}
+use Rattle.run_model.specs.Replies.{is_rest, is_killed, has_reasons, members}
+use Rattle.run_model.specs.Tables.{home_of, groups, call_of, target, actions_in}
+use Rattle.run_model.specs.Book.{Book, row_of, queued, queued_all, filled, taken_from, dropped, row_ended}
+
+abbrev pub posting : {B : Type 0} → CallerId → ℕ → ℕ → Reader B
+posting k i to = making k (Post (record { 0 = i }) to) (λ reply b. b)
+
+abbrev pub acting : {B : Type 0} → CallerId → (ℕ → Reader B) → Action → Reader B
+acting k r a = asking k (call_of a) (λ reply. either (is_rest reply) (r (target a)) nothing)
+
+abbrev pub getting : Script → CallerId → ℕ → Reader Book
+getting s w T = one_each (λ g. making w (Get g) (λ reply. queued_all s (members g reply))) (range_with_len 0 (groups s))
+
+abbrev pub firing : Script → CallerId → ℕ → Reader Book
+firing s w T = from_book (λ old. in_turn
+    (quietly (λ b. record b { wait = swept T b.wait }))
+    (one_each (λ i. making w (Wake (record { 0 = i }) 2) (λ reply b. if is_rest reply then queued s i b else b)) (fired T old.wait)))
+
+abbrev pub handing : Script → CallerId → ℕ → ℕ → Reader Book
+handing s w T i = either (home_of s i == w.0) (quietly (queued s i)) (posting w i (home_of s i))
+
+abbrev pub returning : Script → CallerId → ℕ → ℕ → Reader Book
+returning s w T i = either (home_of s i == s.workers) (posting w i s.workers) (quietly (queued s i))
+
+abbrev pub retiring : Script → CallerId → ℕ → ℕ → Reader Book
+retiring s w T i = making w (Retire (record { 0 = i })) (λ reply. dropped i)
+
+abbrev pub dropping : Script → CallerId → ℕ → ℕ → Reader Book
+dropping s w T i = asking w (DropRun (record { 0 = i })) (λ reply.
+    either (is_killed reply) (retiring s w T i) (either (has_reasons reply) (returning s w T i) nothing))
+
+abbrev pub running_row : Script → CallerId → ℕ → ℕ → Row → Reader Book
+running_row s w T i row = in_turn (one_each (acting w (handing s w T)) row.actions) (in_turn (quietly (row_ended T i row)) (dropping s w T i))
+
+abbrev pub running : Script → CallerId → ℕ → ℕ → Reader Book
+running s w T i = asking w (Take (record { 0 = i })) (λ reply.
+    either (is_killed reply) (retiring s w T i) (from_book (λ b. running_row s w T i (row_of s i b))))
+
+-- how many runs the quotas leave
+abbrev pub runs_left : Classes ℕ → ℕ
+runs_left q = q.urgent + q.normal + q.bulk + q.heavy
+
+-- the runs from a given next one on, of which at most so many are left
+abbrev pub running_on : Script → CallerId → ℕ → ℕ → Classes ℕ → Option Next → Reader Book
+running_on s w T n q None b es = nothing b es
+running_on s w T zero q (Some x) b es = None
+running_on s w T (suc n) q (Some x) b es =
+    in_turn (running s w T x.task) (λ c. running_on s w T n (spent x.class q) (next_run c.lists (spent x.class q)) c) (taken_from x.class b) es
+
+abbrev pub running_all : Script → CallerId → ℕ → Reader Book
+running_all s w T b = let q = quotas s.depth b.lists in running_on s w T (runs_left q) q (next_run b.lists q) b
+
+abbrev pub turning : Script → CallerId → ℕ → Reader Book
+turning s w T = in_turn (getting s w T) (in_turn (firing s w T) (in_turn (quietly (filled s.depth)) (running_all s w T)))
+
+-- the reader of an injector's round
+abbrev pub injecting : Script → ℕ → Reader (Unit {0})
+injecting s r = one_each (acting (record { 0 = s.workers }) (λ i. posting (record { 0 = s.workers }) i (home_of s i))) (actions_in s r)
