@@ -1,5 +1,5 @@
 -- The run of the one task is lawful: its actions, its end, and the whole of it.
-use Rattle.std.proofs.Common.{◌≡◌, ◌≢◌, ℕ, zero, suc, ◌+◌, ◌<◌, ◌≤◌, ◌==◌, ◌||◌, not, Bool, true, false, if◌then◌else◌, ℤ, pos, List, [], ◌∷◌, ◌++◌, refl, sym, ◌∙◌, ap, subst, arith}
+use Rattle.std.proofs.Common.{◌≡◌, ◌≢◌, ℕ, zero, suc, ◌+◌, ◌-◌, ◌^◌, ◌<◌, ◌≤◌, ◌==◌, ◌||◌, not, Bool, true, false, if◌then◌else◌, ℤ, pos, List, [], ◌∷◌, ◌++◌, refl, sym, ◌∙◌, ap, subst, arith}
 use Rattle.std.specs.List.{AllByRecursion}
 use Rattle.sched_base.specs.declared.names.TaskId.{TaskId}
 use Rattle.queue_model.specs.RunList.{RunItem}
@@ -7,20 +7,21 @@ use Rattle.step_tables.specs.declared.tables.Action.{Action}
 use Rattle.step_tables.specs.declared.tables.Action.TheVariants.{Wake, Kill}
 use Rattle.step_tables.specs.declared.tables.Expiry.TheVariants.{Keep}
 use Rattle.step_tables.specs.declared.tables.Kind.TheVariants.{Pinned}
+use Rattle.step_tables.specs.declared.tables.Row.{Row}
 use Rattle.step_tables.specs.declared.tables.Script.{Script}
 use Rattle.task_machine.specs.declared.task.Place.{Place}
 use Rattle.task_machine.specs.declared.task.Place.TheVariants as places
 use Rattle.task_machine.specs.declared.calls.Call.TheVariants as calls
 use Rattle.task_machine.specs.declared.calls.Entry.{Entry}
-use Rattle.task_machine.specs.Step.{Allowed}
-use Rattle.run_model.specs.Parts.{Part, Nothing, Then, Each}
-use Rattle.run_model.specs.Book.{Book, queued}
+use Rattle.task_machine.specs.Step.{Allowed, reply_of}
+use Rattle.run_model.specs.Parts.{Part, Nothing, Then, Either, Each}
+use Rattle.run_model.specs.Book.{Book, row_of, queued as queue, dropped, row_ended}
 use Rattle.run_model.specs.Tables.{call_of}
-use Rattle.run_model.specs.Turn.{Acts, Hands, Drops, RunOf}
+use Rattle.run_model.specs.Turn.{Acts, Hands, Returns, Retires, Drops, RunsRow, RunOf}
 use Rattle.taskrun.specs.Play.{worker, task, World, made, replied, ended, ended_as, acted_all, ran, ran_as}
 use Rattle.taskrun.specs.Stands.{at, one, Stands, IsAction, Phase, rests, waits, boxed, is_over, place_in, queued_in, Settled}
 use Rattle.taskrun.proofs.OneTask.{is_task_id, not_zero}
-use Rattle.taskrun.proofs.Went.{entry_of, Went, went_then, went_quiet, went_asks, went_makes}
+use Rattle.taskrun.proofs.Went.{entry_of, Went, went_then, went_quiet, went_asks, went_makes, went_from, went_queue}
 
 -- a script of one worker and one task, by what may differ
 pub record Form : Type 0 where
@@ -31,6 +32,9 @@ pub record Form : Type 0 where
   pub name : List ℕ
   pub init : Bool
   pub actions : List Action
+
+abbrev pub row_of_form : Form → Row
+row_of_form f = record { actions = f.actions; expiry = Keep; next = 0 }
 
 abbrev pub script_of_form : Form → Script
 script_of_form f = record {
@@ -43,7 +47,7 @@ script_of_form f = record {
     name = f.name;
     kind = Pinned 0 (pos 0);
     init = f.init;
-    rows = record { actions = f.actions; expiry = Keep; next = 0 } ∷ [];
+    rows = row_of_form f ∷ [];
   } ∷ [];
   events = [];
 }
@@ -118,3 +122,101 @@ acts f T (Kill i ∷ actions) b pending killed takes queued entries ok =
     (record { named = refl; fit = refl; room = tt; reply = refl })
     (went_quiet (λ b. b) _ _ b refl refl))
     (acts f T actions b _ _ takes queued _ ok.1))
+
+-- the place to which a drop leads, by whether nothing is pending
+abbrev pub after_drop : Bool → Place
+after_drop idle = if not idle || false then places.Hands worker else places.Rest
+
+-- the world between two turns, by whether nothing is pending
+settled_drop : (idle : Bool) (pending takes n : ℕ) (entries : List Entry) → takes ≤ n → Settled (world (after_drop idle) pending false takes (not idle) entries) n
+settled_drop true pending takes n entries few = record {
+  phase = rests;
+  stands = record { pending = pending; killed = false; takes = takes; alone = refl; few = few };
+  queued = refl;
+}
+settled_drop false pending takes n entries few = record {
+  phase = waits;
+  stands = record { pending = pending; killed = false; takes = takes; alone = refl; few = few };
+  queued = refl;
+}
+
+-- the world after a retirement
+settled_gone : (v : World) (n : ℕ) → v.state ≡ one (at places.Gone 0 false 0) → v.queued ≡ false → Settled v n
+settled_gone v n e idle = record {
+  phase = is_over;
+  stands = record { pending = 0; killed = false; takes = 0; alone = e; few = omega arith };
+  queued = idle;
+}
+
+-- a task that has reasons at its drop is queued, and one that has none is left
+went_back : (f : Form) (T : ℕ) (idle : Bool) (w v : World) (count : ℕ) → v.state ≡ w.state → v.entries ≡ w.entries → (c : Book) × Went (Either (not idle) (Returns (script_of_form f) worker T 0) Nothing) w (book count []) v c × BookFor c (not idle)
+went_back f T true w v count same_state same_entries =
+    (book count [], went_quiet (λ b. b) w v (book count []) same_state same_entries, record { count = count; key = pos 0; is = refl })
+went_back f T false w v count same_state same_entries =
+    (queue (script_of_form f) 0 (book count []), went_quiet (queue (script_of_form f) 0) w v (book count []) same_state same_entries, record { count = count + 1; key = _; is = refl })
+
+-- a task that is in hand after its drop, since it was killed, may be retired
+retire_killed : (b : Bool) (pending takes : ℕ) (w : World) → w.state ≡ one (at (if b || true then places.Hands worker else places.Rest) pending true takes) → Allowed w.state (entry_of (calls.Retire task) w)
+retire_killed true pending takes w e =
+    subst (λ s. Allowed s (record { caller = worker; call = calls.Retire task; reply = reply_of s worker (calls.Retire task) })) (sym e) (record { named = refl; fit = refl; room = tt; reply = refl })
+retire_killed false pending takes w e =
+    subst (λ s. Allowed s (record { caller = worker; call = calls.Retire task; reply = reply_of s worker (calls.Retire task) })) (sym e) (record { named = refl; fit = refl; room = tt; reply = refl })
+
+-- the end of the run
+pub drops : (f : Form) (T count pending : ℕ) (killed : Bool) (takes n : ℕ) (entries : List Entry) → takes ≤ n → Outcome (Drops (script_of_form f) worker T 0) (world (places.Runs worker) pending killed takes false entries) (book count []) (ended (world (places.Runs worker) pending killed takes false entries)) n
+unfolding ended
+drops f T count pending true takes n entries few = record {
+  ends = _;
+  went = went_asks (calls.DropRun task) _ _ _ _
+    (record { named = refl; fit = refl; room = tt; reply = refl })
+    (went_makes (calls.Retire task) (λ reply. dropped 0) _ _ (book count []) (retire_killed (not (pending == 0)) pending takes (made (calls.DropRun task) (world (places.Runs worker) pending true takes false entries)) refl) refl refl);
+  settled = settled_gone _ n refl refl;
+  book_for = record { count = count; key = pos 0; is = refl };
+}
+drops f T count pending false takes n entries few =
+    let back = went_back f T (pending == 0) _ _ count refl refl in
+    record {
+      ends = back.0;
+      went = went_asks (calls.DropRun task) _ _ _ _ (record { named = refl; fit = refl; room = tt; reply = refl }) back.1;
+      settled = settled_drop (pending == 0) pending takes n _ few;
+      book_for = back.2;
+    }
+
+-- the run after its take: the actions, the row's end, and the drop
+rows_end : (f : Form) (T count takes n : ℕ) (w : World) → (acted : Acted f T f.actions (book count []) takes false w) → takes ≤ n → Outcome (RunsRow (script_of_form f) worker T 0 (row_of_form f)) w (book count []) (ended (acted_all f.actions w)) n
+rows_end f T count takes n w acted few =
+    let v = acted_all f.actions w in
+    let out : Outcome (Drops (script_of_form f) worker T 0) v (book count []) (ended v) n =
+        subst (λ v. Outcome (Drops (script_of_form f) worker T 0) v (book count []) (ended v) n) (sym acted.is)
+        (drops f T count acted.pending acted.killed takes n acted.entries few) in
+    let quiet = went_quiet (row_ended T 0 (row_of_form f)) v v (book count []) refl refl in
+    record {
+      ends = out.ends;
+      went = went_then w v (ended v) (book count []) (book count []) out.ends acted.went
+        (went_then v v (ended v) (book count []) (book count []) out.ends quiet out.went);
+      settled = out.settled;
+      book_for = out.book_for;
+    }
+
+-- the whole run: the task is in hand, and may have been killed before
+pub runs : (f : Form) (T count pending : ℕ) (killed : Bool) (takes n : ℕ) (queued : Bool) (entries : List Entry) → AllByRecursion IsAction f.actions → takes ≤ n → n < 2 ^ 48 - 1 → Outcome (RunOf (script_of_form f) worker T 0) (world (places.Hands worker) pending killed takes queued entries) (book count []) (ran f.actions (world (places.Hands worker) pending killed takes queued entries)) (n + 1)
+unfolding ran
+runs f T count pending true takes n queued entries ok few room = record {
+  ends = _;
+  went = went_asks (calls.Take task) _ _ _ _
+    (record { named = refl; fit = refl; room = omega arith; reply = refl })
+    (went_makes (calls.Retire task) (λ reply. dropped 0) _ _ (book count []) (record { named = refl; fit = refl; room = tt; reply = refl }) refl refl);
+  settled = settled_gone _ (n + 1) refl refl;
+  book_for = record { count = count; key = pos 0; is = refl };
+}
+runs f T count pending false takes n queued entries ok few room =
+    let w = made (calls.Take task) (world (places.Hands worker) pending false takes false entries) in
+    let acted = acts f T f.actions (book count []) 0 false (takes + 1) false w.entries ok in
+    let out = rows_end f T count (takes + 1) (n + 1) w acted (omega arith) in
+    record {
+      ends = out.ends;
+      went = went_asks (calls.Take task) _ _ _ _ (record { named = refl; fit = refl; room = omega arith; reply = refl })
+        (went_queue _ _ _ _ false (went_from (λ b. RunsRow (script_of_form f) worker T 0 (row_of (script_of_form f) 0 b)) w _ (book count []) _ out.went));
+      settled = out.settled;
+      book_for = out.book_for;
+    }

@@ -6,7 +6,7 @@ use Rattle.task_machine.specs.declared.calls.Reply.{Reply}
 use Rattle.task_machine.specs.declared.calls.Entry.{Entry}
 use Rattle.task_machine.specs.Step.{State, Allowed, after, reply_of}
 use Rattle.task_machine.specs.History.{Legal, led, calls_of, stepped}
-use Rattle.run_model.specs.Parts.{Part, Quiet, Nothing, Then, Asks, Makes, Either, Each}
+use Rattle.run_model.specs.Parts.{Part, Quiet, Nothing, Then, Asks, Makes, Either, From, Each}
 use Rattle.run_model.specs.Book.{Book}
 use Rattle.taskrun.specs.Play.{worker, World, made, replied}
 
@@ -87,3 +87,25 @@ went_either false w v b c p q = q refl
 -- the book or the world written otherwise
 pub went_at : {P : Part Book} (w v : World) (b c d : Book) → Went P w b v c → c ≡ d → Went P w b v d
 went_at {P} w v b c d p e = subst (λ x. Went P w b v x) e p
+
+-- a part that depends on the book at its start
+pub went_from : (Q : Book → Part Book) (w v : World) (b c : Book) → Went (Q b) w b v c → Went (From Q) w b v c
+went_from Q w v b c p = record {
+  entries = p.entries;
+  appended = p.appended;
+  lawful = p.lawful;
+  legal = p.legal;
+  leads = p.leads;
+  mine = p.mine;
+}
+
+-- what the worker's queue holds at the start does not matter
+pub went_queue : {P : Part Book} (w v : World) (b c : Book) (queued : Bool) → Went P (record w { queued = queued }) b v c → Went P w b v c
+went_queue w v b c queued p = record {
+  entries = p.entries;
+  appended = p.appended;
+  lawful = p.lawful;
+  legal = p.legal;
+  leads = p.leads;
+  mine = p.mine;
+}
