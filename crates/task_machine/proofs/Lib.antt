@@ -1,3 +1,9 @@
 pub mod About
+pub mod After
+pub mod Histories
 pub mod Lists
+pub mod Reasons
+pub mod Replies
+pub mod SinceTake
+pub mod Validity
 pub mod Words

@@ -3,10 +3,15 @@
 
 mod calls;
 mod entry_log;
+mod laws;
 mod machine;
 mod task;
 
 pub use calls::{Call, Entry, NotLegal, Reply};
 pub use entry_log::Log;
+pub use laws::{
+    calls_have_one_reply, histories_have_one_end, openings_are_valid, refusals_are_exact,
+    steps_keep_validity, takes_tell_reasons_since,
+};
 pub use machine::Machine;
 pub use task::{Place, Seen, Stand, TaskState};

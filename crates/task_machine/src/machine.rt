@@ -1,8 +1,8 @@
 //! The machine: the states of all tasks, and one call after another.
 
-ghost use Rattle.std.specs.Prelude.{◌≡◌, ◌≤◌, ◌*◌, length, replicate, IfOk, IfErr, OnOk, OnErr, IsTrue};
+ghost use Rattle.std.specs.Prelude.{◌≡◌, ◌<◌, ◌≤◌, ◌*◌, length, replicate, IfOk, IfErr, OnOk, OnErr, IsTrue};
 ghost use Rattle.task_machine.specs.Task.{resting, seated, seen_of};
-ghost use Rattle.task_machine.specs.Step.{State, task_at, put_task, subject, is_task, is_named, fits, IsReply, after, changed, moved, each, IsBox, IsBoxIn, AllRoom, Step, Roomy};
+ghost use Rattle.task_machine.specs.Step.{State, task_at, put_task, subject, is_named, fits, IsReply, after, changed, moved, each, IsBox, IsBoxIn, AllRoom, Step, Roomy};
 ghost use Rattle.task_machine.specs.Refusal.{Refused};
 ghost use Rattle.task_machine.specs.declared.task.Place.TheVariants as places;
 ghost use Rattle.task_machine.specs.declared.calls.Call.TheVariants as calls;
@@ -54,7 +54,7 @@ impl Machine {
 
     /// Puts a task that was never woken into a box, with the reason init.
     pub fn seat_init(&mut self, id: TaskId, boxno: u32)
-        requires exists { IsTrue (is_task self.old id.0) }
+        requires exists { id.0 < length self.old.tasks }
         requires box_exists { boxno ≤ self.old.workers }
         requires rests { (task_at self.old id.0).place ≡ places.Rest }
         requires untaken { (task_at self.old id.0).takes ≡ 0 }
@@ -67,7 +67,7 @@ impl Machine {
 
     /// What a call would see of a task.
     pub fn seen(&self, id: TaskId) -> Seen
-        requires { IsTrue (is_task self.now id.0) }
+        requires { id.0 < length self.now.tasks }
         ensures { result ≡ seen_of (task_at self.now id.0) }
     {
         self.tasks[id.0 as usize].seen()
@@ -75,7 +75,7 @@ impl Machine {
 
     /// Where a task is.
     pub fn place(&self, id: TaskId) -> Place
-        requires { IsTrue (is_task self.now id.0) }
+        requires { id.0 < length self.now.tasks }
         ensures { result ≡ (task_at self.now id.0).place }
     {
         self.tasks[id.0 as usize].place
@@ -83,7 +83,7 @@ impl Machine {
 
     /// Which tasks of a group are in a box: bit j stands for task `64 * group + j`.
     pub fn box_group(&self, boxno: u32, group: u32) -> u64
-        requires exists { IsTrue (is_task self.now (64 * group)) }
+        requires exists { 64 * group < length self.now.tasks }
         requires box_exists { boxno ≤ self.now.workers }
         ensures { IsBox self.now boxno group result }
     {

@@ -1,0 +1,34 @@
+//! What holds of every machine, as functions that do nothing and whose contracts are the laws.
+
+ghost use Rattle.task_machine.specs.Laws.{StepsKeepValidity, OpeningsAreValid, CallsHaveOneReply, RefusalsAreExact, HistoriesHaveOneEnd, TakesTellReasonsSince};
+
+/// Every step leads from a valid state to a valid one.
+pub fn steps_keep_validity()
+    ensures { StepsKeepValidity }
+{}
+
+/// Every opening is valid.
+pub fn openings_are_valid()
+    ensures { OpeningsAreValid }
+{}
+
+/// A call has one right reply.
+pub fn calls_have_one_reply()
+    ensures { CallsHaveOneReply }
+{}
+
+/// An entry is not both allowed and refused, and it is refused for one cause.
+pub fn refusals_are_exact()
+    ensures { RefusalsAreExact }
+{}
+
+/// A legal history leads from its first state to one end.
+pub fn histories_have_one_end()
+    ensures { HistoriesHaveOneEnd }
+{}
+
+/// In a legal history from an opening each take has exactly the reasons since the task's previous
+/// take, and the killed flag exactly where a kill came since then.
+pub fn takes_tell_reasons_since()
+    ensures { TakesTellReasonsSince }
+{}
