@@ -2,3 +2,4 @@ pub mod Joined
 pub mod OneTask
 pub mod Went
 pub mod Acts
+pub mod TurnOf
