@@ -4,3 +4,4 @@ pub mod Readings
 pub mod TurnReadings
 mod Worked
 pub mod Words
+pub mod Times

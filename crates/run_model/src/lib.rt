@@ -3,4 +3,4 @@
 
 mod laws;
 
-pub use laws::lawful_runs_are_decided;
+pub use laws::{lawful_runs_are_decided, lawful_runs_keep_time};
