@@ -1,2 +1,7 @@
+pub mod Decided
+pub mod HistoryTest
 pub mod Readings
 pub mod TurnReadings
+mod Worked
+pub mod Words
+pub mod Times

@@ -1,5 +1,5 @@
 -- The readers of the parts: each reads what its part allows, and nothing else.
-use Rattle.std.proofs.Common.{◌≡◌, ℕ, ◌+◌, ◌==◌, ◌&&◌, Bool, true, false, List, [], ◌∷◌, ◌++◌, Option, None, Some, option_and_then, MatchBool, refl, sym, ap, ap₂, subst, ◌∙◌, append_assoc, eqb-true, eq-eqb, arith}
+use Rattle.std.proofs.Common.{◌≡◌, ℕ, ◌==◌, ◌&&◌, Bool, true, false, List, [], ◌∷◌, ◌++◌, Option, None, Some, option_and_then, refl, sym, ap, ap₂, ◌∙◌, append_assoc, eqb-true, eq-eqb}
 use Rattle.sched_base.specs.declared.names.CallerId.{CallerId}
 use Rattle.task_machine.specs.declared.calls.Call.{Call}
 use Rattle.task_machine.specs.declared.calls.Call.TheVariants.{Wake, Kill, Post, Get, Take, DropRun, Retire}

@@ -1,20 +1,20 @@
 -- The reader of a turn reads the lawful turns, and the reader of an injector's round the lawful ones.
-use Rattle.std.proofs.Common.{◌≡◌, ℕ, zero, suc, ◌+◌, ◌-◌, ◌==◌, ◌<◌, ◌≤◌, Bool, true, false, List, [], ◌∷◌, ◌++◌, Option, None, Some, option_and_then, refl, sym, ap, subst, ◌∙◌, arith, add-one, if◌then◌else◌, ◌⊎◌, inl, inr, append_assoc}
+use Rattle.std.proofs.Common.{◌≡◌, ℕ, zero, suc, ◌+◌, ◌<◌, ◌≤◌, List, [], ◌∷◌, ◌++◌, Option, None, Some, refl, sym, ap, subst, ◌∙◌, arith, ◌⊎◌, inl, inr, append_assoc}
 use Rattle.std.specs.List.{range_with_len}
 use Rattle.sched_base.specs.declared.names.CallerId.{CallerId}
 use Rattle.sched_base.specs.declared.names.Class.{Class}
 use Rattle.sched_base.specs.declared.names.Class.TheVariants.{Urgent, Normal, Bulk, Heavy}
-use Rattle.queue_model.specs.Classes.{Classes, Next, at, quotas, spent, run_in, first_run, next_run}
-use Rattle.queue_model.specs.Sweep.{fired, swept}
+use Rattle.queue_model.specs.Classes.{Classes, Next, at, spent, run_in, first_run, next_run}
+use Rattle.queue_model.specs.Sweep.{fired}
 use Rattle.step_tables.specs.declared.tables.Action.{Action}
 use Rattle.step_tables.specs.declared.tables.Row.{Row}
 use Rattle.step_tables.specs.declared.tables.Script.{Script}
 use Rattle.task_machine.specs.declared.calls.Entry.{Entry}
-use Rattle.run_model.specs.Parts.{Part, Nothing, Then, Each}
+use Rattle.run_model.specs.Parts.{Part, Each}
 use Rattle.run_model.specs.Tables.{home_of, target, groups, actions_in}
-use Rattle.run_model.specs.Book.{Book, row_of, queued, taken_from, filled, row_ended}
+use Rattle.run_model.specs.Book.{Book, row_of, taken_from, filled}
 use Rattle.run_model.specs.Turn.{Posts, Acts, Gets, Fires, Hands, Returns, Retires, Drops, RunsRow, RunOf, RunsOf, Runs, Turn}
-use Rattle.run_model.specs.Reader.{Got, Reader, nothing, in_turn}
+use Rattle.run_model.specs.Reader.{Got, Reader}
 use Rattle.run_model.specs.TurnReader.{posting, acting, getting, firing, handing, returning, retiring, dropping, running_row, running, running_on, running_all, runs_left, turning, injecting}
 use Rattle.run_model.proofs.Readings.{Took, Reads, some_inj, chained, reads-quiet, reads-nothing, reads-then, reads-asks, reads-makes, reads-either, reads-from, reads-each, joined_read}
 

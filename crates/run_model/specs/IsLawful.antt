@@ -9,7 +9,7 @@ use Rattle.task_machine.specs.declared.task.Seen.{Seen}
 use Rattle.task_machine.specs.declared.task.Seen.TheVariants.{Live, Gone}
 use Rattle.task_machine.specs.declared.task.TaskState.{TaskState}
 use Rattle.task_machine.specs.declared.calls.Call.{Call}
-use Rattle.task_machine.specs.declared.calls.Call.TheVariants.{Wake, Kill, Post, Get, Take, DropRun, Retire}
+use Rattle.task_machine.specs.declared.calls.Call.TheVariants.{Take}
 use Rattle.task_machine.specs.declared.calls.Reply.{Reply}
 use Rattle.task_machine.specs.declared.calls.Reply.TheVariants.{Task, Group, Done}
 use Rattle.task_machine.specs.declared.calls.Entry.{Entry}
@@ -17,7 +17,7 @@ use Rattle.task_machine.specs.Step.{State, task_at, subject, is_named, fits, rep
 use Rattle.task_machine.specs.History.{stepped, led, calls_of}
 use Rattle.run_model.specs.Run.{Round, Run}
 use Rattle.run_model.specs.Book.{Book}
-use Rattle.run_model.specs.Reader.{Got, Reader}
+use Rattle.run_model.specs.Reader.{Reader}
 use Rattle.run_model.specs.TurnReader.{turning, injecting}
 use Rattle.run_model.specs.Standing.{Standing, opening, dealt, next_tick, is_at_rest}
 

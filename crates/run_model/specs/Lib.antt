@@ -9,3 +9,4 @@ pub mod Lawful
 pub mod Reader
 pub mod TurnReader
 pub mod IsLawful
+pub mod Laws

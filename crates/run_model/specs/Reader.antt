@@ -1,5 +1,5 @@
 -- Readers that decide whether entries are put together from parts (docs/MODEL.md, "A test for lawful runs").
-use Rattle.std.specs.Prelude.{ℕ, ◌==◌, ◌&&◌, Bool, true, false, List, [], ◌∷◌, Option, None, Some, option_and_then, if◌then◌else◌}
+use Rattle.std.specs.Prelude.{◌==◌, ◌&&◌, Bool, true, false, List, [], ◌∷◌, Option, None, Some, option_and_then}
 use Rattle.sched_base.specs.declared.names.CallerId.{CallerId}
 use Rattle.task_machine.specs.declared.calls.Call.{Call}
 use Rattle.task_machine.specs.declared.calls.Call.TheVariants.{Wake, Kill, Post, Get, Take, DropRun, Retire}

@@ -1,5 +1,5 @@
 -- The reader of a turn, part by part (docs/MODEL.md, "A test for lawful runs").
-use Rattle.std.specs.Prelude.{ℕ, zero, suc, ◌+◌, ◌==◌, Option, None, Some, List, [], ◌∷◌, if◌then◌else◌}
+use Rattle.std.specs.Prelude.{ℕ, zero, suc, ◌+◌, ◌==◌, Option, None, Some, if◌then◌else◌}
 use Rattle.std.specs.List.{range_with_len}
 use Rattle.sched_base.specs.declared.names.CallerId.{CallerId}
 use Rattle.queue_model.specs.Classes.{Classes, Next, quotas, spent, next_run}
@@ -7,9 +7,8 @@ use Rattle.queue_model.specs.Sweep.{fired, swept}
 use Rattle.step_tables.specs.declared.tables.Action.{Action}
 use Rattle.step_tables.specs.declared.tables.Row.{Row}
 use Rattle.step_tables.specs.declared.tables.Script.{Script}
-use Rattle.task_machine.specs.declared.calls.Entry.{Entry}
 use Rattle.task_machine.specs.declared.calls.Call.TheVariants.{Wake, Post, Get, Take, DropRun, Retire}
-use Rattle.run_model.specs.Reader.{Got, Reader, quietly, nothing, in_turn, asking, making, either, from_book, one_each}
+use Rattle.run_model.specs.Reader.{Reader, quietly, nothing, in_turn, asking, making, either, from_book, one_each}
 use Rattle.run_model.specs.Replies.{is_rest, is_killed, has_reasons, members}
 use Rattle.run_model.specs.Tables.{home_of, groups, call_of, target, actions_in}
 use Rattle.run_model.specs.Book.{Book, row_of, queued, queued_all, filled, taken_from, dropped, row_ended}
