@@ -3,3 +3,6 @@ pub mod OneTask
 pub mod Went
 pub mod Acts
 pub mod TurnOf
+pub mod RunOf
+pub mod NoTask
+pub mod Forms

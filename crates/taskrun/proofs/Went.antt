@@ -1,11 +1,12 @@
 -- Calls that the worker made are a lawful part of its turn, and a legal history: one lemma for each way in which
 -- parts are put together.
 use Rattle.std.proofs.Common.{◌≡◌, ℕ, ◌==◌, Bool, true, false, if◌then◌else◌, List, [], ◌∷◌, ◌++◌, refl, sym, ◌∙◌, ap, subst, append_assoc, append-nil, MatchBool}
+use Rattle.std.specs.List.{AllByRecursion}
 use Rattle.task_machine.specs.declared.calls.Call.{Call}
 use Rattle.task_machine.specs.declared.calls.Reply.{Reply}
 use Rattle.task_machine.specs.declared.calls.Entry.{Entry}
 use Rattle.task_machine.specs.Step.{State, Allowed, after, reply_of}
-use Rattle.task_machine.specs.History.{Legal, led, calls_of, stepped}
+use Rattle.task_machine.specs.History.{Legal, led, stepped}
 use Rattle.run_model.specs.Parts.{Part, Quiet, Nothing, Then, Asks, Makes, Either, From, Each}
 use Rattle.run_model.specs.Book.{Book}
 use Rattle.taskrun.specs.Play.{worker, World, made, replied}
@@ -21,7 +22,7 @@ pub record Went (P : Part Book) (w : World) (b : Book) (v : World) (c : Book) : 
   pub lawful : P b entries c
   pub legal : Legal w.state entries
   pub leads : v.state ≡ led w.state entries
-  pub mine : calls_of 0 entries ≡ entries
+  pub mine : AllByRecursion (λ e. e.caller.0 ≡ 0) entries
 
 -- laws of histories that follow one another
 pub legal_more : (s : State) (xs ys : List Entry) → Legal s xs → Legal (led s xs) ys → Legal s (xs ++ ys)
@@ -32,14 +33,9 @@ pub led_more : (s : State) (xs ys : List Entry) → led s (xs ++ ys) ≡ led (le
 led_more s [] ys = refl
 led_more s (x ∷ xs) ys = led_more (stepped s x) xs ys
 
-cons_if : (b : Bool) (x : Entry) (xs ys : List Entry) → (if b then x ∷ (xs ++ ys) else (xs ++ ys)) ≡ (if b then x ∷ xs else xs) ++ ys
-cons_if true x xs ys = refl
-cons_if false x xs ys = refl
-
-pub calls_more : (k : ℕ) (xs ys : List Entry) → calls_of k (xs ++ ys) ≡ calls_of k xs ++ calls_of k ys
-calls_more k [] ys = refl
-calls_more k (x ∷ xs) ys =
-    ap (λ zs. if x.caller.0 == k then x ∷ zs else zs) (calls_more k xs ys) ∙ cons_if (x.caller.0 == k) x (calls_of k xs) (calls_of k ys)
+all_more : (xs ys : List Entry) → AllByRecursion (λ e. e.caller.0 ≡ 0) xs → AllByRecursion (λ e. e.caller.0 ≡ 0) ys → AllByRecursion (λ e. e.caller.0 ≡ 0) (xs ++ ys)
+all_more [] ys p q = q
+all_more (x ∷ xs) ys p q = (p.0, all_more xs ys p.1 q)
 
 -- parts one after another
 pub went_then : {P Q : Part Book} (w m v : World) (b d c : Book) → Went P w b m d → Went Q m d v c → Went (Then P Q) w b v c
@@ -49,7 +45,7 @@ went_then w m v b d c p q = record {
   lawful = record { first = p.entries; second = q.entries; between = d; joined = refl; front = p.lawful; back = q.lawful };
   legal = legal_more w.state p.entries q.entries p.legal (subst (λ s. Legal s q.entries) p.leads q.legal);
   leads = q.leads ∙ ap (λ s. led s q.entries) p.leads ∙ sym (led_more w.state p.entries q.entries);
-  mine = calls_more 0 p.entries q.entries ∙ ap (λ es. es ++ calls_of 0 q.entries) p.mine ∙ ap (λ es. p.entries ++ es) q.mine;
+  mine = all_more p.entries q.entries p.mine q.mine;
 }
 
 -- a change of the book without an entry
@@ -60,7 +56,7 @@ went_quiet f w v b same_state same_entries = record {
   lawful = (refl, refl);
   legal = tt;
   leads = same_state;
-  mine = refl;
+  mine = tt;
 }
 
 -- a call, and then what its reply asks for
@@ -71,7 +67,7 @@ went_asks call w v b c ok p = record {
   lawful = record { reply = replied call w; rest = p.entries; begins = refl; goes_on = p.lawful };
   legal = (ok, p.legal);
   leads = p.leads;
-  mine = ap (λ es. entry_of call w ∷ es) p.mine;
+  mine = (refl, p.mine);
 }
 
 -- a call whose reply changes the book
