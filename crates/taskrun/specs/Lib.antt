@@ -1,2 +1,3 @@
 pub mod Play
 pub mod Stands
+pub mod Headline
