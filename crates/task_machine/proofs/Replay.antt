@@ -63,7 +63,7 @@ Allowed-may_come s e h same =
       named = and_first named (fit && room) h;
       fit = and_first fit room later;
       room = Roomy-is_roomy e.call (task_at s (subject e.call)) (and_second fit room later);
-      reply = rw (← same) (IsReply-reply_of s e.caller e.call)
+      reply = rw (← same) (IsReply-reply_of s e.caller e.call);
     }
 
 pub Legal-replayed : (s : State) (es : List Entry) → all_may_come s es ≡ true → replayed s es ≡ es → Legal s es

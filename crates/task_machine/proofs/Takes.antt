@@ -7,7 +7,7 @@ use Rattle.task_machine.specs.declared.calls.Call.{Call}
 use Rattle.task_machine.specs.declared.calls.Call.TheVariants as calls
 use Rattle.task_machine.specs.declared.calls.Entry.{Entry}
 use Rattle.task_machine.specs.Task.{is_gone, is_boxed, put, raised, woken, flagged, got}
-use Rattle.task_machine.specs.Step.{State, task_at, is_about, bit, changed, AllRoom, Allowed}
+use Rattle.task_machine.specs.Step.{State, task_at, is_about, bit, changed, AllRoom, Allowed, Step}
 use Rattle.task_machine.specs.History.{stepped}
 use Rattle.task_machine.specs.Since.{is_take}
 use Rattle.task_machine.proofs.After.{task_at-after, subject-lt}
@@ -55,6 +55,9 @@ bit-le false = omega arith
 
 pub TakesWithin-step : (n : ℕ) (s : State) (e : Entry) → Allowed s e → TakesWithin n s → TakesWithin (n + 1) (stepped s e)
 TakesWithin-step n s e a h i = omega (arith, takes-step s e i a, bit-le (is_take i e.call), h i)
+
+pub TakesWithin-after : (n : ℕ) (old : State) (e : Entry) (new : State) → Step old e new → TakesWithin n old → TakesWithin (n + 1) new
+TakesWithin-after n old e new step h i = rw step.state (TakesWithin-step n old e step.allowed h i)
 
 pub AllRoom-within : (n : ℕ) (s : State) → n < 2 ^ 48 - 1 → TakesWithin n s → AllRoom s
 AllRoom-within n s l h i = omega (arith, h i)
