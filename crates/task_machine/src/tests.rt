@@ -165,3 +165,17 @@ fn a_log_holds_its_entries_in_order(rt: HostRuntime) -> Result<(), Fail> {
     assert!(rt; log.as_slice().is_empty());
     Ok(())
 }
+
+#[test]
+fn a_clone_stays_as_it_was(rt: HostRuntime) -> Result<(), Fail> {
+    let mut machine = Machine::new(rt.alloc(), 1, 1)?;
+    let before = machine.try_clone()?;
+    machine.seat_init(TASK, 1);
+    let seated = machine.try_clone()?;
+    machine.deal(TASK, 0);
+    assert_eq!(rt; before.place(TASK), Place::Rest);
+    assert_eq!(rt; seated.place(TASK), Place::Boxed(1));
+    assert_eq!(rt; machine.place(TASK), Place::Boxed(0));
+    assert_eq!(rt; machine.box_group(0, 0), 1);
+    Ok(())
+}
