@@ -3,7 +3,10 @@ pub mod After
 pub mod Histories
 pub mod Lists
 pub mod Reasons
+pub mod Replay
 pub mod Replies
 pub mod SinceTake
+pub mod Takes
 pub mod Validity
 pub mod Words
+pub mod Worked

@@ -1,6 +1,8 @@
 -- Each step keeps the tasks' states valid.
-use Rattle.std.proofs.Common.{◌≡◌, ◌≢◌, ℕ, Bool, true, false, not, ◌||◌, ◌==◌, if◌then◌else◌, refl, arith, ne_eqb, eqb-true, List, [], ◌∷◌, bit_or}
+use Rattle.std.proofs.Common.{◌≡◌, ◌≢◌, ℕ, Bool, true, false, not, ◌||◌, ◌==◌, if◌then◌else◌, refl, arith, ne_eqb, eqb-true, List, [], ◌∷◌, bit_or, inl, inr, subst, length}
+use Rattle.std.proofs.lemmas.Bool.{cases_eq, cases_lt}
 use Rattle.std.proofs.lemmas.Bool.Decides.{nat_tests}
+use Rattle.std.proofs.lemmas.List.{get_or-set_same, get_or-set_other, set_past}
 use Rattle.std.proofs.lemmas.Nat.{le_or_r}
 use Rattle.std.proofs.Math.Bool.{or-true}
 use Rattle.sched_base.specs.declared.names.CallerId.{CallerId}
@@ -10,8 +12,8 @@ use Rattle.task_machine.specs.declared.task.TaskState.{TaskState}
 use Rattle.task_machine.specs.declared.calls.Call.{Call}
 use Rattle.task_machine.specs.declared.calls.Call.TheVariants as calls
 use Rattle.task_machine.specs.declared.calls.Entry.{Entry}
-use Rattle.task_machine.specs.Task.{is_busy, put, in_hands, woken, flagged, got, IsValidTask}
-use Rattle.task_machine.specs.Step.{State, task_at, is_about, is_named, needs, fits, changed, after, Step, Allowed, IsValid}
+use Rattle.task_machine.specs.Task.{resting, is_busy, put, in_hands, woken, flagged, got, ValidAt, IsValidTask}
+use Rattle.task_machine.specs.Step.{State, task_at, is_about, is_named, needs, fits, changed, after, put_task, Step, Allowed, IsValid}
 use Rattle.task_machine.specs.History.{stepped, Legal, led}
 use Rattle.task_machine.specs.Since.{OpensAs, IsOpening}
 use Rattle.task_machine.proofs.After.{task_at-after, subject-lt}
@@ -121,3 +123,18 @@ opens-valid false t h = rw h refl
 
 pub opening-valid : (is_init : ℕ → Bool) (s : State) → IsOpening is_init s → IsValid s
 opening-valid is_init s h i = opens-valid (is_init i) (task_at s i) (h i)
+
+boxed-valid : (c d : ℕ) (t : TaskState) → t.place ≡ places.Boxed c → IsValidTask t → IsValidTask (put (places.Boxed d) t)
+boxed-valid c d t e v = subst (λ (p : Place). ValidAt p t) e v
+
+-- a task in a box may be put into another one
+pub dealt-valid : (s : State) (i c d : ℕ) → (task_at s i).place ≡ places.Boxed c → IsValid s → IsValid (put_task s i (put (places.Boxed d) (task_at s i)))
+dealt-valid s i c d e v j =
+    elim (cases_eq j i) [
+      | inl same ↦
+          rw same (elim (cases_lt i (length s.tasks)) [
+            | inl lt ↦ rw (get_or-set_same s.tasks i (put (places.Boxed d) (task_at s i)) resting lt) (boxed-valid c d (task_at s i) e (v i))
+            | inr le ↦ rw (set_past s.tasks i (put (places.Boxed d) (task_at s i)) le) (v i)
+          ])
+      | inr ne ↦ rw (get_or-set_other s.tasks i j (put (places.Boxed d) (task_at s i)) resting ne) (v j)
+    ]

@@ -6,6 +6,8 @@ mod entry_log;
 mod laws;
 mod machine;
 mod task;
+#[cfg(test)]
+mod tests;
 
 pub use calls::{Call, Entry, NotLegal, Reply};
 pub use entry_log::Log;

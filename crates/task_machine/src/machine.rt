@@ -1,7 +1,7 @@
 //! The machine: the states of all tasks, and one call after another.
 
 ghost use Rattle.std.specs.Prelude.{◌≡◌, ◌<◌, ◌≤◌, ◌*◌, length, replicate, IfOk, IfErr, OnOk, OnErr, IsTrue};
-ghost use Rattle.task_machine.specs.Task.{resting, seated, seen_of};
+ghost use Rattle.task_machine.specs.Task.{resting, seated, seen_of, put};
 ghost use Rattle.task_machine.specs.Step.{State, task_at, put_task, subject, is_named, fits, IsReply, after, changed, moved, each, IsBox, IsBoxIn, AllRoom, Step, Roomy};
 ghost use Rattle.task_machine.specs.Refusal.{Refused};
 ghost use Rattle.task_machine.specs.declared.task.Place.TheVariants as places;
@@ -63,6 +63,27 @@ impl Machine {
         let task = &mut self.tasks[id.0 as usize];
         task.post(boxno);
         task.pending = Reasons::INIT;
+    }
+
+    /// Moves a task from the shared box into a worker's box.
+    pub fn deal(&mut self, id: TaskId, worker: u32)
+        requires exists { id.0 < length self.old.tasks }
+        requires is_worker { worker < self.old.workers }
+        requires shared { (task_at self.old id.0).place ≡ places.Boxed self.old.workers }
+        ensures { self.new ≡ put_task self.old id.0 (put (places.Boxed worker) (task_at self.old id.0)) }
+    {
+        let task = &mut self.tasks[id.0 as usize];
+        task.post(worker);
+    }
+
+    /// A machine in the same state.
+    pub fn try_clone(&self) -> Result<Machine, AllocError>
+        ensures { IfOk result (λ m. m ≡ self.now) }
+    {
+        Ok(Machine {
+            workers: self.workers,
+            tasks: self.tasks.clone()?,
+        })
     }
 
     /// What a call would see of a task.
