@@ -3,3 +3,5 @@ pub mod Spelling
 pub mod HasText
 pub mod Laws
 pub mod Added
+pub mod Grammar
+pub mod Judging
