@@ -1,5 +1,6 @@
 -- What the words of a line say (docs/TRANSCRIPT.md, "Shapes").
 use Rattle.std.specs.Prelude.{ℕ, ◌+◌, ◌*◌, Bool, true, false, not, ◌&&◌, ◌==◌, if◌then◌else◌, nat_lt, nat_le, List, [], ◌∷◌, length, codes, Option, Some, None, slice_index}
+use Rattle.std.specs.Borrow.{Bor}
 use Rattle.std.specs.List.{slice_split, list_all}
 use Rattle.std.specs.Str.{bytes_eq, all_ascii_digits}
 use Rattle.std.specs.Str.Parse.{digits_value}
@@ -23,6 +24,11 @@ use Rattle.transcript.specs.Spelling.{reason_names}
 abbrev pub pieces : ℕ → List ℕ → List (List ℕ)
 pieces at bytes = slice_split (λ b. b == at) bytes
 
+-- the pieces of what is left of a text, if anything is
+abbrev pub pieces_left : ℕ → Option (Bor (List ℕ)) → List (List ℕ)
+pieces_left at None = []
+pieces_left at (Some rest) = pieces at rest.now
+
 -- goes on with a value that is there
 infixl 10 ◌>>=◌
 abbrev pub ◌>>=◌ : {A B : Type 0} → Option A → (A → Option B) → Option B
@@ -42,13 +48,17 @@ one_of (row ∷ rows) w = if bytes_eq row.0 w then Some row.1 else one_of rows w
 abbrev pub has_leading_zero : List ℕ → Bool
 has_leading_zero w = nat_lt 1 (length w) && slice_index w 0 == 48
 
--- 0, or digits that do not begin with 0
-abbrev pub is_number : List ℕ → Bool
-is_number w = nat_lt 0 (length w) && (all_ascii_digits w && not (has_leading_zero w))
+-- the number that digits write, if it is at most `most`
+unfoldable pub plain_number : ℕ → List ℕ → Option ℕ
+plain_number most w = if all_ascii_digits w && nat_le (digits_value 10 w) most then Some (digits_value 10 w) else None
 
--- a number of at most 20 digits and at most `most`
+-- 1 to 20 bytes, and no leading zero
+abbrev pub is_plain : List ℕ → Bool
+is_plain w = nat_lt 0 (length w) && (nat_le (length w) 20 && not (has_leading_zero w))
+
+-- a number: 1 to 20 digits without a leading zero, at most `most`
 unfoldable pub number : ℕ → List ℕ → Option ℕ
-number most w = if nat_le (length w) 20 && (is_number w && nat_le (digits_value 10 w) most) then Some (digits_value 10 w) else None
+number most w = if is_plain w then plain_number most w else None
 
 -- the number of a task, a caller, a box, a group or a round, or a tick
 abbrev pub small : List ℕ → Option ℕ

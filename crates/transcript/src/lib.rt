@@ -7,6 +7,9 @@ mod lines;
 mod put_words;
 mod shape;
 mod writer;
+mod numerals;
+mod tables;
+mod parts;
 
 pub use faults::{TextError, TextFault};
 pub use laws::text_in_pieces;
