@@ -5,3 +5,4 @@ pub mod Laws
 pub mod Added
 pub mod Grammar
 pub mod Judging
+pub mod Taken

@@ -10,6 +10,7 @@ mod writer;
 mod numerals;
 mod tables;
 mod parts;
+mod reason_words;
 
 pub use faults::{TextError, TextFault};
 pub use laws::text_in_pieces;
