@@ -1,5 +1,6 @@
 -- The hexadecimal digits of a number, from the last one on.
-use Rattle.std.proofs.Common.{◌≡◌, ℕ, suc, ◌+◌, ◌/◌, ◌%◌, ◌<◌, false, List, [], ◌∷◌, ◌++◌, length, drop, set, refl, ap, ◌∙◌, sym, arith, append_assoc, add-one}
+use Rattle.std.proofs.Common.{◌≡◌, ℕ, suc, ◌+◌, ◌/◌, ◌%◌, ◌<◌, false, List, [], ◌∷◌, ◌++◌, length, drop, set, refl, ap, ◌∙◌, sym, arith, append_assoc, add-one, ◌*◌, ◌^◌, ◌≤◌}
+use Rattle.std.proofs.Math.Nat.{pow-suc, pow-le-pow_right}
 use Rattle.std.specs.Fmt.{digit_glyph}
 use Rattle.std.proofs.lemmas.List.{drop-set}
 use Rattle.transcript.specs.Spelling.{hex_word}
@@ -13,3 +14,12 @@ hex_back digits before place rest e below =
 pub hex_none : (rest : ℕ) (digits : List ℕ) → hex_word 0 rest ++ drop 0 digits ≡ digits
 unfolding hex_word
 hex_none rest digits = refl
+
+-- a number below a power of 16, and one more digit
+pub hex_below : (value digit i : ℕ) → value < 16 ^ i → digit < 16 → value * 16 + digit < 16 ^ (i + 1)
+hex_below value digit i below small = rw (add-one, pow-suc) (omega arith)
+
+pub hex_fits : (value i : ℕ) → value < 16 ^ i → i ≤ 16 → value < 2 ^ 64
+hex_fits value i below few =
+    let most : 16 ^ i ≤ 16 ^ 16 = pow-le-pow_right (omega arith) few in
+    omega arith

@@ -3,3 +3,6 @@ pub mod Spelling
 pub mod HasText
 pub mod Laws
 pub mod Added
+pub mod Grammar
+pub mod Judging
+pub mod Taken

@@ -81,7 +81,7 @@ fn mask_digits(mask: u64) -> [u8; 16]
 }
 
 /// The name of the reason of a bit.
-fn reason_name(bit: usize) -> &'static [u8]
+pub(crate) fn reason_name(bit: usize) -> &'static [u8]
     requires { bit < 7 }
     ensures { result.now ≡ slice_index_or reason_names bit [] }
 {

@@ -1,0 +1,109 @@
+//! Words that stand for numbers.
+
+ghost use Rattle.std.specs.Prelude.{◌≡◌, ◌<◌, ◌≤◌, ◌^◌, IfSome, IsTrue, nat_le, ◌&&◌, length, if◌then◌else◌};
+ghost use Rattle.std.specs.List.{list_all};
+ghost use Rattle.std.specs.Char.{digit_value};
+ghost use Rattle.std.specs.Str.Parse.{digits_value};
+ghost use Rattle.transcript.specs.Grammar.{has_leading_zero, is_plain, plain_number, number, small, takes_number, hex, is_hex_digit};
+
+/// The most that takes may be, 2^48 - 1.
+const MOST_TAKES: u64 = 281_474_976_710_655;
+
+/// A number of at most 4,294,967,295.
+pub(crate) fn small(word: &[u8]) -> Option<u32>
+    ensures { result ≡ small word.now }
+{
+    match number(word, 4_294_967_295) {
+        Some(value) => Some(value as u32),
+        None => None,
+    }
+}
+
+/// A number of takes, below 2^48.
+pub(crate) fn takes_number(word: &[u8]) -> Option<u64>
+    ensures { result ≡ takes_number word.now }
+{
+    number(word, MOST_TAKES)
+}
+
+/// A number without leading zeros, of at most 20 digits and at most `most`.
+#[tactic(auto, unfolding(crate::specs::Grammar::number))]
+fn number(word: &[u8], most: u64) -> Option<u64>
+    requires { most < 2 ^ 48 }
+    ensures value { result ≡ number most word.now }
+    ensures bound { IfSome result (λ n. n ≤ most) }
+{
+    if is_plain(word) { digits(word, most) } else { None }
+}
+
+/// Whether there are 1 to 20 bytes and no leading zero.
+fn is_plain(word: &[u8]) -> bool
+    ensures { result ≡ is_plain word.now }
+{
+    !word.is_empty() && word.len() <= 20 && !has_leading_zero(word)
+}
+
+/// Whether a digit 0 has more behind it.
+fn has_leading_zero(word: &[u8]) -> bool
+    ensures { result ≡ has_leading_zero word.now }
+{
+    word.len() > 1 && word[0] == b'0'
+}
+
+/// The number that digits write, if it is at most `most`.
+fn digits(word: &[u8], most: u64) -> Option<u64>
+    requires { most < 2 ^ 48 }
+    ensures value { result ≡ plain_number most word.now }
+    ensures bound { IfSome result (λ n. n ≤ most) }
+{
+    let mut value = 0u64;
+    for byte in word {
+        if !byte.is_ascii_digit() {
+            return None;
+        }
+        value = value * 10 + u64::from(*byte - b'0');
+        if value > most {
+            return None;
+        }
+    }
+    Some(value)
+}
+
+/// 16 hexadecimal digits in lower case.
+#[tactic(auto, unfolding(crate::specs::Grammar::hex))]
+pub(crate) fn hex(word: &[u8]) -> Option<u64>
+    ensures { result ≡ hex word.now }
+{
+    if word.len() == 16 { hex_digits(word) } else { None }
+}
+
+/// The number that hexadecimal digits write.
+fn hex_digits(word: &[u8]) -> Option<u64>
+    requires { length word.now ≡ 16 }
+    ensures { result ≡ (if list_all is_hex_digit word.now then Some (digits_value 16 word.now) else None) }
+{
+    let mut value = 0u64;
+    for byte in word {
+        if !is_hex_digit(*byte) {
+            return None;
+        }
+        value = value * 16 + u64::from(hex_value(*byte));
+    }
+    Some(value)
+}
+
+/// Whether a byte is a hexadecimal digit in lower case.
+fn is_hex_digit(byte: u8) -> bool
+    ensures { result ≡ is_hex_digit byte }
+{
+    byte.is_ascii_digit() || (b'a' <= byte && byte <= b'f')
+}
+
+/// The value of a hexadecimal digit in lower case.
+fn hex_value(byte: u8) -> u8
+    requires { IsTrue (is_hex_digit byte) }
+    ensures value { result ≡ digit_value byte }
+    ensures below { result < 16 }
+{
+    if byte < b'a' { byte - b'0' } else { byte - b'a' + 10 }
+}
