@@ -1,1 +1,7 @@
 mod Examples
+pub mod Pieces
+pub mod Digits
+pub mod Reasons
+pub mod Options
+pub mod Back
+pub mod Orders

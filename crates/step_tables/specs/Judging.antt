@@ -13,9 +13,11 @@ use Rattle.step_tables.specs.declared.tables.Event.{Event}
 use Rattle.step_tables.specs.declared.tables.Script.{Script}
 use Rattle.step_tables.specs.declared.faults.ScriptFault.{ScriptFault}
 use Rattle.step_tables.specs.declared.progress.Progress.{Progress}
-use Rattle.step_tables.specs.Words.{Word, ◌>>=◌, ◌is◌, pieces, is_empty, words_of, number_of, signed_of}
+use Rattle.step_tables.specs.declared.shapes.Setting.{Setting}
+use Rattle.step_tables.specs.declared.shapes.Setting.TheVariants.{Workers, Depth, Start, Step, Rounds}
+use Rattle.step_tables.specs.Words.{Word, ◌>>=◌, ◌is◌, pieces, is_empty, words_of, number_of, signed_of, reasons_of}
 use Rattle.step_tables.specs.Shapes as shapes
-use Rattle.step_tables.specs.Shapes.{Order, Delay, Place, Setting, TaskLine, RowLine, EventLine, Said, setting_line, body_line}
+use Rattle.step_tables.specs.Shapes.{Order, Delay, Place, TaskLine, RowLine, EventLine, Said, setting_line, body_line}
 
 -- nothing is read so far
 abbrev pub nothing : Progress
@@ -55,7 +57,7 @@ unknown tasks name = is_none (named tasks name)
 
 -- the name in an action
 abbrev pub order_name : Order → Word
-order_name (shapes.wakes name bits) = name
+order_name (shapes.wakes name list) = name
 order_name (shapes.kills name) = name
 
 -- the task whose rows come now
@@ -89,18 +91,18 @@ may_come p shapes.ends = all_rows p
 
 -- the least and the most that a setting may be
 abbrev pub least : Setting → ℕ
-least shapes.workers = 1
-least shapes.depth = 1
-least shapes.start = 0
-least shapes.step = 1
-least shapes.rounds = 1
+least Workers = 1
+least Depth = 1
+least Start = 0
+least Step = 1
+least Rounds = 1
 
 abbrev pub most : Setting → ℕ
-most shapes.workers = 16
-most shapes.depth = 1000
-most shapes.start = 4294967295
-most shapes.step = 1048576
-most shapes.rounds = 100000
+most Workers = 16
+most Depth = 1000
+most Start = 4294967295
+most Step = 1048576
+most Rounds = 100000
 
 -- whether a word in a number's place of the place writes none
 unfoldable pub place_no_number : Place → Bool
@@ -203,8 +205,13 @@ task_of line = record { name = line.name; kind = kind_of line.place; init = line
 unfoldable pub number_named : List TaskDef → Word → ℕ
 number_named tasks name = unwrap_or (named tasks name) 0
 
+-- the reasons of a reason list
+unfoldable pub reasons_named : Word → ℕ
+reasons_named list = unwrap_or (reasons_of list) 0
+
+-- the parts of the tables that an action, an expiry, a row and an event make
 unfoldable pub action_of : List TaskDef → Order → Action
-action_of tasks (shapes.wakes name bits) = Wake (record { 0 = number_named tasks name }) bits
+action_of tasks (shapes.wakes name list) = Wake (record { 0 = number_named tasks name }) (reasons_named list)
 action_of tasks (shapes.kills name) = Kill (record { 0 = number_named tasks name })
 
 unfoldable pub expiry_of : Delay → Expiry
@@ -220,11 +227,11 @@ event_of tasks line = record { round = value line.round; action = action_of task
 
 -- what is read so far, with one line more
 unfoldable pub with_setting : Progress → Setting → ℕ → Progress
-with_setting p shapes.workers n = record p { workers = n }
-with_setting p shapes.depth n = record p { depth = n }
-with_setting p shapes.start n = record p { start = n }
-with_setting p shapes.step n = record p { step = n }
-with_setting p shapes.rounds n = record p { rounds = n }
+with_setting p Workers n = record p { workers = n }
+with_setting p Depth n = record p { depth = n }
+with_setting p Start n = record p { start = n }
+with_setting p Step n = record p { step = n }
+with_setting p Rounds n = record p { rounds = n }
 
 unfoldable pub with_task : Progress → TaskLine → Progress
 with_task p line = record p { tasks = p.tasks ++ task_of line ∷ []; counts = p.counts ++ value line.rows ∷ [] }
@@ -263,7 +270,7 @@ judge_said p (Some said) = if may_come p said then judge_tested (first_fault (te
 
 -- the setting whose line this is
 unfoldable pub setting_at : ℕ → Option Setting
-setting_at line = slice_get (shapes.workers ∷ shapes.depth ∷ shapes.start ∷ shapes.step ∷ shapes.rounds ∷ []) (line - 2)
+setting_at line = slice_get (Workers ∷ Depth ∷ Start ∷ Step ∷ Rounds ∷ []) (line - 2)
 
 -- what the words say, in the line of a setting or after those
 unfoldable pub said_in : Option Setting → List Word → Option Said

@@ -1,4 +1,6 @@
 pub mod Words
 pub mod Shapes
+pub mod Text
 pub mod Sound
 pub mod Judging
+pub mod Views

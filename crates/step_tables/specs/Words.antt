@@ -3,7 +3,6 @@ use Prim.Native.String.{String}
 use Rattle.std.specs.Prelude.{ℕ, suc, zero, ◌+◌, ◌*◌, ℤ, pos, negsuc, Bool, true, false, not, ◌&&◌, ◌||◌, List, [], ◌∷◌, length, Option, Some, None, option_map, codes, bytes_eq, ◌==◌, nat_lt, nat_le, if◌then◌else◌}
 use Rattle.std.specs.List.{slice_split, list_all, list_any}
 use Rattle.std.specs.Char.{is_ascii_lowercase, is_ascii_digit}
-use Rattle.std.specs.Str.{all_ascii_digits}
 use Rattle.std.specs.Str.Parse.{digits_value}
 use Rattle.sched_base.specs.declared.names.Class.{Class}
 use Rattle.sched_base.specs.declared.names.Class.TheVariants.{Urgent, Normal, Bulk, Heavy}
@@ -55,7 +54,7 @@ is_plain (c ∷ d ∷ ds) = not (c == 48)
 
 -- the number that a word of at most ten digits writes
 unfoldable pub number_of : Word → Option ℕ
-number_of w = only_if (is_plain w && all_ascii_digits w && nat_le (length w) 10) (digits_value 10 w)
+number_of w = only_if (is_plain w && (list_all is_ascii_digit w && nat_le (length w) 10)) (digits_value 10 w)
 
 -- minus the number, which is not 0
 abbrev pub below_zero : ℕ → Option ℤ
@@ -84,10 +83,7 @@ reason_names = codes "init" ∷ codes "timer" ∷ codes "io" ∷ codes "signal" 
 abbrev pub bits_of : List Word → List Word → Option ℕ
 bits_of names [] = Some 0
 bits_of [] (w ∷ ws) = None
-bits_of (n ∷ ns) (w ∷ ws) = elim (bytes_eq w n) [
-  | true ↦ option_map (λ k. 2 * k + 1) (bits_of ns ws)
-  | false ↦ option_map (λ k. 2 * k) (bits_of ns (w ∷ ws))
-]
+bits_of (n ∷ ns) (w ∷ ws) = if bytes_eq w n then option_map (λ k. 2 * k + 1) (bits_of ns ws) else option_map (λ k. 2 * k) (bits_of ns (w ∷ ws))
 
 -- the set that a reason list names
 unfoldable pub reasons_of : Word → Option ℕ

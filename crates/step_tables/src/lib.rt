@@ -4,7 +4,9 @@
 mod faults;
 mod lists;
 mod progress;
+mod shapes;
 mod tables;
+mod words;
 
 pub use faults::{ScriptError, ScriptFault};
 pub use lists::{Actions, Events, Name, Rows, Tasks};

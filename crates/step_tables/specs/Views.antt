@@ -1,0 +1,70 @@
+-- What the reader holds, as words, shapes and scripts: it keeps parts of the text where they lie.
+use Rattle.std.specs.Prelude.{ℕ, List, [], map, Option, Some, None}
+use Rattle.std.specs.Borrow.{Bor}
+use Rattle.step_tables.specs.Words.{Word, pieces}
+use Rattle.step_tables.specs.Shapes.{Order, wakes, kills, Delay, keeps, after, never, Place, pinned, shared, tasklet, TaskLine, RowLine, EventLine, Said, sets, task, row, event, ends}
+use Rattle.step_tables.specs.declared.words.Words.{Words}
+use Rattle.step_tables.specs.declared.shapes.Order.{Order as CodeOrder}
+use Rattle.step_tables.specs.declared.shapes.Order.TheVariants as orders
+use Rattle.step_tables.specs.declared.shapes.Delay.{Delay as CodeDelay}
+use Rattle.step_tables.specs.declared.shapes.Delay.TheVariants as delays
+use Rattle.step_tables.specs.declared.shapes.Place.{Place as CodePlace}
+use Rattle.step_tables.specs.declared.shapes.Place.TheVariants as places
+use Rattle.step_tables.specs.declared.shapes.TaskLine.{TaskLine as CodeTaskLine}
+use Rattle.step_tables.specs.declared.shapes.RowLine.{RowLine as CodeRowLine}
+use Rattle.step_tables.specs.declared.shapes.EventLine.{EventLine as CodeEventLine}
+use Rattle.step_tables.specs.declared.shapes.Said.{Said as CodeSaid}
+use Rattle.step_tables.specs.declared.shapes.Said.TheVariants as saids
+
+-- the pieces of the bytes that are left, if any are
+abbrev pub pieces_left : ℕ → Option (Bor (List ℕ)) → List (List ℕ)
+pieces_left at None = []
+pieces_left at (Some rest) = pieces at rest.now
+
+-- the words that are not yet read
+abbrev pub words_in : Words → List Word
+words_in words = pieces_left 32 words.rest
+
+-- a word, and the words after it
+abbrev pub word_and_rest : Bor (List ℕ) × Words → Word × List Word
+word_and_rest found = (found.0.now, words_in found.1)
+
+-- the shapes that the reader finds
+abbrev pub place_view : CodePlace → Place
+place_view (places.Pinned home nice) = pinned home.now nice.now
+place_view (places.Shared nice) = shared nice.now
+place_view (places.Tasklet home class) = tasklet home.now class
+
+abbrev pub place_and_rest : CodePlace × Words → Place × List Word
+place_and_rest found = (place_view found.0, words_in found.1)
+
+abbrev pub delay_view : CodeDelay → Delay
+delay_view delays.Keeps = keeps
+delay_view (delays.After w) = after w.now
+delay_view delays.Never = never
+
+abbrev pub order_view : CodeOrder → Order
+order_view (orders.Wakes name list) = wakes name.now list.now
+order_view (orders.Kills name) = kills name.now
+
+abbrev pub order_and_rest : CodeOrder × Words → Order × List Word
+order_and_rest found = (order_view found.0, words_in found.1)
+
+abbrev pub task_view : CodeTaskLine → TaskLine
+task_view line = record { name = line.name.now; place = place_view line.place; rows = line.rows.now; init = line.init }
+
+abbrev pub delay_and_rest : CodeDelay × Words → Delay × List Word
+delay_and_rest found = (delay_view found.0, words_in found.1)
+
+abbrev pub row_view : CodeRowLine → RowLine
+row_view line = record { name = line.name.now; number = line.number.now; orders = map order_view line.orders.items; delay = delay_view line.delay; next = line.next.now }
+
+abbrev pub event_view : CodeEventLine → EventLine
+event_view line = record { round = line.round.now; order = order_view line.order }
+
+abbrev pub said_view : CodeSaid → Said
+said_view (saids.Sets setting w) = sets setting w.now
+said_view (saids.Task line) = task (task_view line)
+said_view (saids.Row line) = row (row_view line)
+said_view (saids.Event line) = event (event_view line)
+said_view saids.Ends = ends
