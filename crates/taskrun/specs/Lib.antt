@@ -1,3 +1,4 @@
 pub mod Play
 pub mod Stands
 pub mod Headline
+pub mod Answers

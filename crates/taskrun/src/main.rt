@@ -2,5 +2,6 @@
 #![tactic(auto)]
 
 mod pieces;
+mod status;
 
 fn main() {}

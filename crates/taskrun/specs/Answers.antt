@@ -1,0 +1,76 @@
+-- What each answer of the top call says (docs/MODEL.md, "Answers").
+use Rattle.std.specs.Prelude.{◌≡◌, ℕ, ◌<◌, ◌≤◌, ◌⊎◌, Bool, true, false, List, [], ◌∷◌, ◌++◌, length, bytes_eq, codes, Option, Some, None, MatchOption, Result, Ok, Err}
+use Rattle.sched_base.specs.Streams.{Reads, Appends, AppendsFront, Rose}
+use Rattle.step_tables.specs.declared.faults.ScriptFault.{ScriptFault}
+use Rattle.step_tables.specs.declared.tables.Script.{Script}
+use Rattle.step_tables.specs.Sound.{is_first_form}
+use Rattle.run_model.specs.Run.{Run}
+use Rattle.transcript.specs.Spelling.{text_of}
+use Rattle.taskrun.specs.declared.status.Status.{Status}
+use Rattle.taskrun.specs.declared.status.Status.TheVariants.{Done, ScriptRefused, Usage, ReadFault, WriteFault, NoMemory, NotLawful, TextRefused}
+use Rattle.taskrun.specs.Headline.{IsRunOf}
+
+-- whether the words of a command line are the one word run
+abbrev pub is_run : List (List ℕ) → Bool
+is_run [] = false
+is_run (word ∷ []) = bytes_eq word (codes "run")
+is_run (word ∷ other ∷ words) = false
+
+-- the number of an answer, which is the exit status of the program
+abbrev pub code_of : Status → ℕ
+code_of Done = 0
+code_of (ScriptRefused fault) = 1
+code_of Usage = 2
+code_of ReadFault = 3
+code_of WriteFault = 4
+code_of NoMemory = 5
+code_of (NotLawful line) = 6
+code_of (TextRefused fault) = 7
+
+-- the fault that tells that a valid script has a form that is not run yet
+abbrev pub other_form : ScriptFault
+other_form = record { line = 0; kind = 0 }
+
+-- there is a script of the form that is run, and what is said of it
+abbrev pub OnScript : Result Script ScriptFault → (Script → Type 0) → Type 0
+OnScript (Ok script) P = (is_first_form script ≡ true) × P script
+OnScript (Err fault) P = ⊥
+
+-- there is none: the text is no script, or its script has another form
+abbrev pub IsRefused : Result Script ScriptFault → ScriptFault → Type 0
+IsRefused (Ok script) fault = (is_first_form script ≡ false) × (fault ≡ other_form)
+IsRefused (Err first) fault = fault ≡ first
+
+-- the whole text of a run of the script was written
+abbrev pub Wrote : Option (List ℕ) → Option (List ℕ) → Script → Type 0
+Wrote before after script = (run : Run) × IsRunOf script run × Appends before after (text_of run)
+
+-- a first part of the text of a run of the script was written
+abbrev pub WroteFront : Option (List ℕ) → Option (List ℕ) → Script → Type 0
+WroteFront before after script = (run : Run) × IsRunOf script run × AppendsFront before after (text_of run)
+
+-- what an answer says of the script's text and of what the sink held before and holds after
+abbrev pub Answers : Result Script ScriptFault → Option (List ℕ) → Option (List ℕ) → Status → Type 0
+Answers read before after Done = OnScript read (Wrote before after)
+Answers read before after (ScriptRefused fault) = IsRefused read fault × (after ≡ before)
+Answers read before after Usage = after ≡ before
+Answers read before after ReadFault = after ≡ before
+Answers read before after WriteFault = OnScript read (WroteFront before after)
+Answers read before after NoMemory = (after ≡ before) ⊎ OnScript read (WroteFront before after)
+Answers read before after (NotLawful line) = ⊥
+Answers read before after (TextRefused fault) = ⊥
+
+-- the answer that comes where no stream fails, but for want of memory
+abbrev pub Expected : Result Script ScriptFault → Status → Type 0
+Expected read Done = OnScript read (λ script. Unit {0})
+Expected read (ScriptRefused fault) = IsRefused read fault
+Expected read Usage = ⊥
+Expected read ReadFault = ⊥
+Expected read WriteFault = ⊥
+Expected read NoMemory = Unit {0}
+Expected read (NotLawful line) = ⊥
+Expected read (TextRefused fault) = ⊥
+
+-- at most so many bytes were read
+abbrev pub ReadsAtMost : ℕ → Option (List ℕ) → Option (List ℕ) → Type 0
+ReadsAtMost most before after = (piece : List ℕ) × (length piece ≤ most) × Reads before after piece

@@ -1,0 +1,44 @@
+//! The answers of the program.
+
+ghost use Rattle.std.specs.Prelude.{◌≡◌};
+
+use step_tables::ScriptFault;
+use transcript::TextFault;
+
+/// How a call of the program ended. The exit status is the number of the answer, from 0 on.
+#[derive(Clone, Copy, Debug, PartialEq, Eq)]
+pub enum Status {
+    /// 0: all was written.
+    Done,
+    /// 1: the input is no script. Line 0 and kind 0 stand for a valid script of a form that is not
+    /// run yet.
+    ScriptRefused(ScriptFault),
+    /// 2: the words are no command.
+    Usage,
+    /// 3: the source failed.
+    ReadFault,
+    /// 4: the sink failed.
+    WriteFault,
+    /// 5: there was no memory.
+    NoMemory,
+    /// 6: a transcript is not lawful from this line on.
+    NotLawful(u32),
+    /// 7: the input is no transcript.
+    TextRefused(TextFault),
+}
+
+impl Status {
+    /// The exit status, 0 to 7.
+    pub fn code(&self) -> u8 {
+        match self {
+            Status::Done => 0,
+            Status::ScriptRefused(_) => 1,
+            Status::Usage => 2,
+            Status::ReadFault => 3,
+            Status::WriteFault => 4,
+            Status::NoMemory => 5,
+            Status::NotLawful(_) => 6,
+            Status::TextRefused(_) => 7,
+        }
+    }
+}
