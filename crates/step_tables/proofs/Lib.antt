@@ -5,3 +5,4 @@ pub mod Reasons
 pub mod Options
 pub mod Back
 pub mod Orders
+pub mod Length
