@@ -3,3 +3,4 @@ pub mod OneTask
 pub mod Went
 pub mod Acts
 pub mod TurnOf
+pub mod EngineCalls
