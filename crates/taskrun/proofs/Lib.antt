@@ -4,3 +4,5 @@ pub mod Went
 pub mod Acts
 pub mod TurnOf
 pub mod EngineCalls
+pub mod EngineForm
+pub mod EngineTurns

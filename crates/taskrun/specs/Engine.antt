@@ -1,5 +1,5 @@
 -- The engine as contracts see it, and where its one task stands when a call comes (docs/MODEL.md, "The first engine").
-use Rattle.std.specs.Prelude.{◌≡◌, ℕ, ◌+◌, ◌^◌, ◌≤◌, List, [], ◌∷◌, length}
+use Rattle.std.specs.Prelude.{◌≡◌, ℕ, ◌+◌, ◌^◌, ◌≤◌, Bool, false, List, [], ◌∷◌, length}
 use Rattle.std.specs.List.{AllByRecursion}
 use Rattle.task_machine.specs.declared.task.Place.TheVariants as places
 use Rattle.step_tables.specs.declared.tables.Script.{Script}
@@ -32,3 +32,8 @@ Waiting (d ∷ ds) w n = Settled w n
 -- a world between two turns of the script, after at most n takes
 abbrev pub Ready : Script → World → ℕ → Type 0
 Ready s w n = Waiting s.tasks w n
+
+-- whether the first task is to run from the start on
+abbrev pub first_init : List TaskDef → Bool
+first_init [] = false
+first_init (d ∷ ds) = d.init

@@ -9,7 +9,7 @@ ghost use Rattle.run_model.specs.Standing.{opening, is_still_at};
 ghost use Rattle.run_model.specs.Tables.{call_of, blank_row};
 ghost use Rattle.taskrun.specs.Play.{worker, replied, made, has_members, collected, acted_all, ended, ran, turned, is_quiet, cleared, opened};
 ghost use Rattle.taskrun.specs.Stands.{IsAction, Settled};
-ghost use Rattle.taskrun.specs.Engine.{world_of, Spare, InHands, Running, Ready};
+ghost use Rattle.taskrun.specs.Engine.{world_of, Spare, InHands, Running, Ready, first_init};
 
 use sched_base::{CallerId, TaskId};
 use std::alloc::{AllocError, Global};
@@ -34,6 +34,65 @@ pub(crate) struct Engine {
 }
 
 impl Engine {
+    /// The engine before round 0 of a sound script of the first form.
+    pub(crate) fn new(alloc: Global, script: &Script) -> Result<Engine, AllocError>
+        requires sound { IsTrue (is_sound script.now) }
+        requires form { IsTrue (is_first_form script.now) }
+        ensures world { IfOk result (λ e. world_of e ≡ opened script.now) }
+        ensures spare { IfOk result (λ e. Spare e 20) }
+    {
+        let machine = machine_of(alloc, script)?;
+        let mut log = Log::new(alloc);
+        log.reserve(MOST_ENTRIES)?;
+        Ok(Engine {
+            machine,
+            queued: false,
+            log,
+        })
+    }
+
+    /// Makes a turn: empties the box, and runs the task where it is queued.
+    #[tactic(auto, unfolding(crate::specs::Play::turned))]
+    pub(crate) fn turn(&mut self, script: &Script)
+        requires sound { IsTrue (is_sound script.now) }
+        requires form { IsTrue (is_first_form script.now) }
+        requires ready { Ready script.now (world_of self.old) (2 ^ 40) }
+        requires spare { Spare self.old 20 }
+        ensures world { world_of self.new ≡ turned script.now (world_of self.old) }
+        ensures room { self.new.log.room ≡ self.old.log.room }
+    {
+        let Some(task) = script.tasks.as_slice().first() else {
+            return;
+        };
+        self.collect();
+        if self.queued {
+            self.run(actions_of(task));
+        }
+    }
+
+    /// Whether the task rests or is gone, or there is none.
+    pub(crate) fn is_quiet(&self, script: &Script) -> bool
+        requires { Ready script.now (world_of self.now) (2 ^ 40) }
+        ensures { result ≡ is_quiet (world_of self.now) }
+    {
+        script.tasks.as_slice().is_empty() || is_still_at(self.machine.place(TASK))
+    }
+
+    /// The entries of the round so far.
+    pub(crate) fn entries(&self) -> &[Entry]
+        ensures { result.now ≡ (world_of self.now).entries }
+    {
+        self.log.as_slice()
+    }
+
+    /// Forgets the entries: the next round begins.
+    pub(crate) fn clear(&mut self)
+        ensures world { world_of self.new ≡ cleared (world_of self.old) }
+        ensures room { self.new.log.room ≡ self.old.log.room }
+    {
+        self.log.clear();
+    }
+
     /// Empties the box: a task that was in it is queued.
     fn collect(&mut self)
         requires settled { Settled (world_of self.old) (2 ^ 40) }
@@ -131,6 +190,45 @@ impl Engine {
         }
         self.log.push(entry);
     }
+}
+
+/// The machine before round 0: a task that is to run from the start on is in the worker's box.
+fn machine_of(alloc: Global, script: &Script) -> Result<Machine, AllocError>
+    requires sound { IsTrue (is_sound script.now) }
+    requires form { IsTrue (is_first_form script.now) }
+    ensures { IfOk result (λ m. m ≡ (opening script.now).state) }
+{
+    let tasks = script.tasks.as_slice();
+    let mut machine = Machine::new(alloc, tasks.len() as u32, script.workers)?;
+    if is_first_init(tasks) {
+        machine.seat_init(TASK, WORKER.0);
+    }
+    Ok(machine)
+}
+
+/// Whether the first task is to run from the start on.
+fn is_first_init(tasks: &[TaskDef]) -> bool
+    ensures { result ≡ first_init tasks.now }
+{
+    match tasks.first() {
+        Some(task) => task.init,
+        None => false,
+    }
+}
+
+/// The actions of a task's first row.
+fn actions_of(task: &TaskDef) -> &[Action]
+    requires { 0 < length task.now.rows }
+    ensures { result.now ≡ (slice_index_or task.now.rows 0 blank_row).actions }
+{
+    task.rows.as_slice()[0].actions.as_slice()
+}
+
+/// Whether a task at this place has nothing more to do.
+fn is_still_at(place: Place) -> bool
+    ensures { result ≡ is_still_at place }
+{
+    matches!(place, Place::Rest | Place::Gone)
 }
 
 /// The call by which an action is made.
