@@ -87,7 +87,8 @@ ready_with : (tasks : List TaskDef) (actions : List Action) (w : World) (n : ℕ
 ready_with [] actions w n ok ready room = ready
 ready_with (d ∷ ds) actions w n ok ready room = settled_served (collected w).queued actions (collected w) n refl ok (settled_collected w n ready) room
 
-actions_by : (tasks : List TaskDef) (s : Script) → s.tasks ≡ tasks → Formed tasks s → AllByRecursion IsAction (actions_of s)
+-- the actions of the first task
+pub actions_by : (tasks : List TaskDef) (s : Script) → s.tasks ≡ tasks → Formed tasks s → AllByRecursion IsAction (actions_of s)
 actions_by [] s e form = subst (λ ts. AllByRecursion IsAction (slice_index_or (slice_index_or ts 0 blank_task).rows 0 blank_row).actions) (sym e) tt
 actions_by (d ∷ ds) s e form = subst (λ s. AllByRecursion IsAction (actions_of s)) (sym form.is) form.actions
 

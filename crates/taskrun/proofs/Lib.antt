@@ -6,3 +6,4 @@ pub mod TurnOf
 pub mod EngineCalls
 pub mod EngineForm
 pub mod EngineTurns
+pub mod EngineTexts
