@@ -6,3 +6,7 @@ pub mod TurnOf
 pub mod RunOf
 pub mod NoTask
 pub mod Forms
+pub mod EngineCalls
+pub mod EngineForm
+pub mod EngineTurns
+pub mod EngineTexts

@@ -1,3 +1,4 @@
+pub mod Engine
 pub mod Play
 pub mod Stands
 pub mod Headline

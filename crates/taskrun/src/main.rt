@@ -1,6 +1,7 @@
 //! `taskrun`: runs scripts of tasks, and writes every call on shared task state with its reply.
 #![tactic(auto)]
 
+mod engine;
 mod pieces;
 mod status;
 

@@ -2,6 +2,7 @@
 
 ghost use Rattle.std.specs.Prelude.{◌≡◌, ℕ, ◌+◌, ◌<◌, ◌≤◌, [], take, length, vec_len, IfOk, IfErr, OnErr, OnOk, IfSome, Some, MatchResult};
 ghost use Rattle.sched_base.specs.Streams.{Appends, AppendsFront, IsAtEnd, Reads, Rose};
+ghost use Rattle.taskrun.specs.Answers.{ReadsAtMost};
 
 use sched_base::{Failed, Sink, Source};
 use std::alloc::{AllocError, Global};
@@ -21,6 +22,7 @@ pub fn read_all<S: Source>(alloc: Global, src: &mut S, most: usize) -> Result<Ve
     ensures read { IfOk result (λ bytes. IfSome (S.left src.old) (λ all. bytes.items ≡ take most all)) }
     ensures end { IfOk result (λ bytes. IfSome (S.left src.old) (λ _. vec_len bytes < most → S.left src.new ≡ Some [])) }
     ensures bound { IfOk result (λ bytes. vec_len bytes ≤ most) }
+    ensures few { ReadsAtMost most (S.left src.old) (S.left src.new) }
     ensures fault { IfErr result (λ e. e ≡ ReadError.Fault → Rose (S.faults src.old) (S.faults src.new)) }
     ensures counted { S.faults src.old ≤ S.faults src.new }
 {
