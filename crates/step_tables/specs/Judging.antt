@@ -303,20 +303,31 @@ fault line kind = record { line = line; kind = kind }
 unfoldable pub script_from : Progress → Script
 script_from p = record { workers = p.workers; depth = p.depth; start = p.start; step = p.step; rounds = p.rounds; tasks = p.tasks; events = p.events }
 
--- the line's fault, or what the next lines make
-abbrev pub go_on : ℕ → Result Progress ℕ → (Progress → Result Script ScriptFault) → Result Script ScriptFault
-go_on n (Ok p) more = more p
-go_on n (Err kind) more = Err (fault n kind)
+-- the verdict on a line, with the line's number
+abbrev pub at_line : ℕ → Result Progress ℕ → Result Progress ScriptFault
+at_line n (Ok p) = Ok p
+at_line n (Err kind) = Err (fault n kind)
+
+-- what is read with a complete line, or the line's fault
+unfoldable pub taken : Option ℕ → ℕ → Progress → List ℕ → Result Progress ScriptFault
+taken long n p line = if p.ended then Err (fault n 2) else (if is_line long n then Err (fault n 8) else at_line n (judge n p line))
+
+-- what the open piece makes of what was read before
+unfoldable pub closed : Option ℕ → ℕ → Progress → List ℕ → Result Script ScriptFault
+closed long n p piece = if p.ended
+  then (if is_empty piece then Ok (script_from p) else Err (fault n 2))
+  else Err (fault n (if is_line long n then 8 else 9))
+
+-- the fault of the lines so far, or what the next lines make
+abbrev pub go_on : Result Progress ScriptFault → (Progress → Result Script ScriptFault) → Result Script ScriptFault
+go_on (Ok p) more = more p
+go_on (Err first) more = Err first
 
 -- the lines from number n on, of which the last is the open piece
 unfoldable pub judged : Option ℕ → ℕ → Progress → List (List ℕ) → Result Script ScriptFault
-judged long n p [] = Err (fault n 9)
-judged long n p (line ∷ []) = if p.ended
-    then (if is_empty line then Ok (script_from p) else Err (fault n 2))
-    else Err (fault n (if is_line long n then 8 else 9))
-judged long n p (line ∷ next ∷ lines) = if p.ended
-    then Err (fault n 2)
-    else (if is_line long n then Err (fault n 8) else go_on n (judge n p line) (λ q. judged long (n + 1) q (next ∷ lines)))
+judged long n p [] = closed long n p []
+judged long n p (line ∷ []) = closed long n p line
+judged long n p (line ∷ next ∷ lines) = go_on (taken long n p line) (λ q. judged long (n + 1) q (next ∷ lines))
 
 -- the script of a text of at most so many bytes
 unfoldable pub script_within : ℕ → List ℕ → Result Script ScriptFault

@@ -1,8 +1,15 @@
 -- What the reader holds, as words, shapes and scripts: it keeps parts of the text where they lie.
-use Rattle.std.specs.Prelude.{ℕ, List, [], map, Option, Some, None}
+use Rattle.std.specs.Prelude.{◌≡◌, ℕ, List, [], map, Option, Some, None, Result, Ok, Err}
 use Rattle.std.specs.Borrow.{Bor}
 use Rattle.step_tables.specs.Words.{Word, pieces}
 use Rattle.step_tables.specs.Shapes.{Order, wakes, kills, Delay, keeps, after, never, Place, pinned, shared, tasklet, TaskLine, RowLine, EventLine, Said, sets, task, row, event, ends}
+use Rattle.step_tables.specs.declared.tables.Script.{Script}
+use Rattle.step_tables.specs.declared.faults.ScriptFault.{ScriptFault}
+use Rattle.step_tables.specs.declared.faults.ScriptError.{ScriptError}
+use Rattle.step_tables.specs.declared.faults.ScriptError.TheVariants.{Refused, Memory}
+use Rattle.step_tables.specs.declared.progress.Progress.{Progress}
+use Rattle.step_tables.specs.declared.progress.Refusal.{Refusal}
+use Rattle.step_tables.specs.declared.progress.Refusal.TheVariants.{Kind, NoMemory}
 use Rattle.step_tables.specs.declared.words.Words.{Words}
 use Rattle.step_tables.specs.declared.shapes.Order.{Order as CodeOrder}
 use Rattle.step_tables.specs.declared.shapes.Order.TheVariants as orders
@@ -68,3 +75,21 @@ said_view (saids.Task line) = task (task_view line)
 said_view (saids.Row line) = row (row_view line)
 said_view (saids.Event line) = event (event_view line)
 said_view saids.Ends = ends
+
+-- what was found of a line is the verdict on it, unless memory ran out
+abbrev pub Judges : Result (Unit {0}) Refusal → Progress → Result Progress ℕ → Type 0
+Judges (Ok done) new verdict = verdict ≡ Ok new
+Judges (Err (Kind kind)) new verdict = verdict ≡ Err kind
+Judges (Err NoMemory) new verdict = Unit {0}
+
+-- the same with the line's number
+abbrev pub Takes : Result (Unit {0}) ScriptError → Progress → Result Progress ScriptFault → Type 0
+Takes (Ok done) new verdict = verdict ≡ Ok new
+Takes (Err (Refused at)) new verdict = verdict ≡ Err at
+Takes (Err Memory) new verdict = Unit {0}
+
+-- what was read is the script of the text, or the fault is the text's first, unless memory ran out
+abbrev pub Gives : Result Script ScriptError → Result Script ScriptFault → Type 0
+Gives (Ok script) read = read ≡ Ok script
+Gives (Err (Refused at)) read = read ≡ Err at
+Gives (Err Memory) read = Unit {0}

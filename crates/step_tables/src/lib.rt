@@ -2,10 +2,13 @@
 #![tactic(auto)]
 
 mod faults;
+mod judging;
 mod lists;
+mod names;
 mod progress;
 mod shapes;
 mod tables;
+mod values;
 mod words;
 
 pub use faults::{ScriptError, ScriptFault};

@@ -1,9 +1,9 @@
 //! The lists of a script. Contracts see each as the list that it holds.
 
-ghost use Rattle.std.specs.Prelude.{◌≡◌, List, []};
+ghost use Rattle.std.specs.Prelude.{◌≡◌, List, [], ◌∷◌, ◌++◌, OnOk, OnErr};
 
 use crate::tables::{Action, Event, Row, TaskDef};
-use std::alloc::Global;
+use std::alloc::{AllocError, Global};
 use std::marker::Model;
 
 /// A task's name: a lower-case letter, then at most 15 lower-case letters, digits or `_`.
@@ -217,5 +217,21 @@ impl Counts {
         Counts {
             list: Vec::new(alloc),
         }
+    }
+
+    /// The list as a slice.
+    pub fn as_slice(&self) -> &[u32]
+        ensures { result.now ≡ self.now }
+    {
+        self.list.as_slice()
+    }
+
+    /// One number more; a failure leaves the list as it is.
+    pub fn push(&mut self, count: u32) -> Result<(), AllocError>
+        ensures ok { OnOk result (self.new ≡ self.old ++ count ∷ []) }
+        ensures err { OnErr result (self.new ≡ self.old) }
+    {
+        self.list.push(count)?;
+        Ok(())
     }
 }

@@ -1,6 +1,26 @@
 //! What the lines of a script have said so far.
 
 use crate::lists::{Counts, Events, Tasks};
+use std::alloc::AllocError;
+
+/// Why a line is refused.
+#[derive(Drop)]
+pub(crate) enum Refusal {
+    /// The kind of its fault.
+    Kind(u8),
+    NoMemory,
+}
+
+impl From<AllocError> for Refusal {
+    ghost use Rattle.std.specs.Prelude.{◌≡◌};
+    ghost use Rattle.step_tables.specs.declared.progress.Refusal.TheVariants.{NoMemory};
+
+    ghost from_gives = { λ _ r. r ≡ NoMemory };
+
+    fn from(_error: AllocError) -> Refusal {
+        Refusal::NoMemory
+    }
+}
 
 /// The settings, tasks and events of the lines that were read.
 #[derive(Debug, Drop)]
