@@ -11,6 +11,7 @@ mod numerals;
 mod tables;
 mod parts;
 mod reason_words;
+mod phrases;
 
 pub use faults::{TextError, TextFault};
 pub use laws::text_in_pieces;
