@@ -1,5 +1,5 @@
 -- What is collected is what the split yields.
-use Rattle.std.proofs.Common.{◌≡◌, ◌==◌, refl, rules}
+use Rattle.std.proofs.Common.{◌==◌, rules}
 use Rattle.std.proofs.lemmas.Iterator.Consumers.{map_from_collect}
 use Rattle.std.proofs.lemmas.Iterator.Splits.{YieldsList-from_slice_split}
 use Rattle.transcript.proofs.phrases.cut.Goals as goal
