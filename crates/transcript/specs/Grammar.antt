@@ -124,33 +124,54 @@ seen (s ∷ p ∷ k ∷ n ∷ []) = do
   Some (seens.Live s p k n)
 seen ws = None
 
--- a call on a task, and what it saw
-abbrev pub sees : (TaskId → Call) → List ℕ → List (List ℕ) → Option (Call × Reply)
-sees made i more = do
+-- the number of a task, and what a call saw of it
+abbrev pub sees : List (List ℕ) → Option (TaskId × Seen)
+sees [] = None
+sees (i ∷ more) = do
   i ← small i
   s ← seen more
-  Some (made (task i), replies.Task s)
+  Some (task i, s)
 
--- a call and its answer, by the words behind the call's name
-abbrev pub call : CallName → List (List ℕ) → Option (Call × Reply)
-call names.Wake (i ∷ f ∷ more) = do
+-- a task's number, reasons, and what a wake saw
+abbrev pub wake : List (List ℕ) → Option (Call × Reply)
+wake (i ∷ f ∷ more) = do
   i ← small i
   f ← reasons f
   s ← seen more
   Some (calls.Wake (task i) f, replies.Task s)
-call names.Post (i ∷ b ∷ []) = do
+wake ws = None
+
+-- a task's number, and that of a box
+abbrev pub post : List (List ℕ) → Option (Call × Reply)
+post (i ∷ b ∷ []) = do
   i ← small i
   b ← small b
   Some (calls.Post (task i) b, replies.Done)
-call names.Get (g ∷ m ∷ []) = do
+post ws = None
+
+-- a group's number, and the tasks that were taken
+abbrev pub get : List (List ℕ) → Option (Call × Reply)
+get (g ∷ m ∷ []) = do
   g ← small g
   m ← hex m
   Some (calls.Get g, replies.Group m)
-call names.Kill (i ∷ more) = sees calls.Kill i more
-call names.Take (i ∷ more) = sees calls.Take i more
-call names.DropRun (i ∷ more) = sees calls.DropRun i more
-call names.Retire (i ∷ more) = sees calls.Retire i more
-call name ws = None
+get ws = None
+
+-- a call on a task, and what it saw
+abbrev pub told : (TaskId → Call) → Option (TaskId × Seen) → Option (Call × Reply)
+told made o = do
+  s ← o
+  Some (made s.0, replies.Task s.1)
+
+-- a call and its answer, by the words behind the call's name
+abbrev pub call : CallName → List (List ℕ) → Option (Call × Reply)
+call names.Wake ws = wake ws
+call names.Post ws = post ws
+call names.Get ws = get ws
+call names.Kill ws = told calls.Kill (sees ws)
+call names.Take ws = told calls.Take (sees ws)
+call names.DropRun ws = told calls.DropRun (sees ws)
+call names.Retire ws = told calls.Retire (sees ws)
 
 -- the letter c, and the caller's number
 abbrev pub caller_number : List ℕ → Option ℕ

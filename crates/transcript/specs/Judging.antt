@@ -1,5 +1,5 @@
 -- Which text is a transcript, and else its first bad line (docs/TRANSCRIPT.md, "Faults").
-use Rattle.std.specs.Prelude.{◌≡◌, ℕ, ◌+◌, Bool, true, false, not, ◌&&◌, ◌==◌, if◌then◌else◌, nat_lt, nat_le, List, [], ◌∷◌, length, take, count_by, Option, Some, None, Result, Ok, Err}
+use Rattle.std.specs.Prelude.{◌≡◌, ℕ, ◌+◌, Bool, true, false, not, ◌&&◌, ◌==◌, if◌then◌else◌, nat_lt, nat_le, List, [], ◌∷◌, ◌++◌, length, take, count_by, Option, Some, None, Result, Ok, Err}
 use Rattle.transcript.specs.declared.lines.Line.{Line}
 use Rattle.transcript.specs.declared.lines.Line.TheVariants as line
 use Rattle.transcript.specs.declared.shape.Said.{Said}
@@ -58,16 +58,20 @@ fault n kind = record { line = n; kind = kind }
 abbrev pub closed : Option ℕ → ℕ → Progress → List ℕ → Result (List Line) TextFault
 closed over n p piece = if p.ended then (if length piece == 0 then Ok [] else Err (fault n 2)) else (if is_line n over then Err (fault n 4) else Err (fault n 3))
 
--- a line of the run in front of those that follow
-abbrev pub onto : Said → Result (List Line) TextFault → Result (List Line) TextFault
-onto First r = r
-onto (Holds l) (Ok ls) = Ok (l ∷ ls)
-onto (Holds l) (Err e) = Err e
+-- the line of the run that a line is
+abbrev pub held : Said → List Line
+held First = []
+held (Holds l) = l ∷ []
+
+-- lines in front of those that follow
+abbrev pub with_front : List Line → Result (List Line) TextFault → Result (List Line) TextFault
+with_front front (Ok ls) = Ok (front ++ ls)
+with_front front (Err e) = Err e
 
 -- goes on behind a good line
 abbrev pub go_on : ℕ → Result Said ℕ → (Said → Result (List Line) TextFault) → Result (List Line) TextFault
 go_on n (Err kind) f = Err (fault n kind)
-go_on n (Ok s) f = onto s (f s)
+go_on n (Ok s) f = with_front (held s) (f s)
 
 -- the lines of the run in the pieces of a text from line n on
 unfoldable pub lines : Option ℕ → ℕ → Progress → List (List ℕ) → Result (List Line) TextFault
@@ -96,3 +100,11 @@ abbrev pub Gives : Result (List Line) TextError → Result (List Line) TextFault
 Gives (Ok ls) r = r ≡ Ok ls
 Gives (Err (error.Refused f)) r = r ≡ Err f
 Gives (Err error.Memory) r = Unit {0}
+
+-- a whole line was taken in: by what was judged of it the progress and the lines grew, or it was refused
+abbrev pub TakesIn : Result (Unit {0}) TextError → Result Said ℕ → ℕ → Progress → Progress → List Line → List Line → Type 0
+TakesIn (Ok done) (Ok s) n p q ls ms = (q ≡ past p s) × (ms ≡ ls ++ held s)
+TakesIn (Ok done) (Err kind) n p q ls ms = ⊥
+TakesIn (Err (error.Refused f)) (Ok s) n p q ls ms = ⊥
+TakesIn (Err (error.Refused f)) (Err kind) n p q ls ms = f ≡ fault n kind
+TakesIn (Err error.Memory) verdict n p q ls ms = Unit {0}

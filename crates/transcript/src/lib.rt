@@ -4,15 +4,19 @@
 mod faults;
 mod laws;
 mod lines;
-mod put_words;
-mod shape;
-mod writer;
 mod numerals;
-mod tables;
 mod parts;
+mod phrases;
+mod put_words;
+mod reader;
 mod reason_words;
+mod shape;
+mod tables;
+mod transcripts;
+mod writer;
 
 pub use faults::{TextError, TextFault};
 pub use laws::text_in_pieces;
 pub use lines::Line;
+pub use transcripts::Transcript;
 pub use writer::{write_end, write_head, write_round};

@@ -33,7 +33,11 @@ fn number(word: &[u8], most: u64) -> Option<u64>
     ensures value { result ≡ number most word.now }
     ensures bound { IfSome result (λ n. n ≤ most) }
 {
-    if is_plain(word) { digits(word, most) } else { None }
+    if is_plain(word) {
+        digits(word, most)
+    } else {
+        None
+    }
 }
 
 /// Whether there are 1 to 20 bytes and no leading zero.
@@ -74,7 +78,11 @@ fn digits(word: &[u8], most: u64) -> Option<u64>
 pub(crate) fn hex(word: &[u8]) -> Option<u64>
     ensures { result ≡ hex word.now }
 {
-    if word.len() == 16 { hex_digits(word) } else { None }
+    if word.len() == 16 {
+        hex_digits(word)
+    } else {
+        None
+    }
 }
 
 /// The number that hexadecimal digits write.
@@ -105,5 +113,9 @@ fn hex_value(byte: u8) -> u8
     ensures value { result ≡ digit_value byte }
     ensures below { result < 16 }
 {
-    if byte < b'a' { byte - b'0' } else { byte - b'a' + 10 }
+    if byte < b'a' {
+        byte - b'0'
+    } else {
+        byte - b'a' + 10
+    }
 }

@@ -47,7 +47,11 @@ fn take_name(bit: usize, left: Option<&[u8]>) -> (bool, Option<&[u8]>)
     match left {
         Some(rest) => {
             let (word, behind) = next_piece(b',', rest);
-            if reason_name(bit) == word { (true, behind) } else { (false, left) }
+            if reason_name(bit) == word {
+                (true, behind)
+            } else {
+                (false, left)
+            }
         }
         None => (false, None),
     }

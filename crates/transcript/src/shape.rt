@@ -33,3 +33,12 @@ pub(crate) struct Progress {
     /// Whether the end line came.
     pub ended: bool,
 }
+
+impl Progress {
+    /// Before the first line.
+    pub const OPENING: Progress = Progress {
+        begun: false,
+        rounds: 0,
+        ended: false,
+    };
+}

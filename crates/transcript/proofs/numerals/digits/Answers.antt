@@ -1,5 +1,5 @@
 -- What the digits so far show.
-use Rattle.std.proofs.Common.{◌∙◌, ◌-◌, ◌+◌, ap, sym, arith, true, not}
+use Rattle.std.proofs.Common.{◌∙◌, ◌+◌, sym, arith}
 use Rattle.transcript.proofs.Numbers.{digits_more, value_more, plain_no_digit, plain_too_large, plain_all}
 use Rattle.transcript.proofs.numerals.digits.Goals as goal
 

@@ -1,5 +1,5 @@
 -- The first byte that parts the text is where it is cut.
-use Rattle.std.proofs.Common.{◌∙◌, sym}
+use Rattle.std.proofs.Common.{sym}
 use Rattle.transcript.proofs.Cuts.{cut_there, cut_nowhere}
 use Rattle.transcript.proofs.parts.next_piece.Goals as goal
 
