@@ -11,51 +11,57 @@ use Rattle.step_tables.specs.declared.faults.ScriptFault.{ScriptFault}
 use Rattle.step_tables.specs.declared.progress.Progress.{Progress}
 use Rattle.step_tables.specs.declared.tables.Script.{Script}
 use Rattle.step_tables.specs.Words.{pieces, is_empty}
-use Rattle.step_tables.specs.Judging.{judge, judged, go_on, is_line, long_line, fault, nothing, script_from, script_within, script_of, byte_limit}
+use Rattle.step_tables.specs.Judging.{judge, judged, taken, closed, at_line, go_on, is_line, long_line, fault, nothing, script_from, script_within, script_of, byte_limit}
 
 -- whether the last piece is empty
 last_is_empty : List (List ℕ) → Bool
-last_is_empty [] = false
+last_is_empty [] = true
 last_is_empty (l ∷ []) = is_empty l
 last_is_empty (l ∷ k ∷ ls) = last_is_empty (k ∷ ls)
 
 -- the two ways of a test whose answer is Ok
-ok_then : (b : Bool) (x y : Result Script ScriptFault) (s : Script) → (if b then x else y) ≡ Ok s → (b ≡ true → x ≡ Ok s → ⊥) → (b ≡ false) × (y ≡ Ok s)
-ok_then true x y s e never = absurd (never refl e)
-ok_then false x y s e never = (refl, e)
+ok_then : {A : Type 0} (b : Bool) (f : ScriptFault) (y : Result A ScriptFault) (x : A) → (if b then Err f else y) ≡ Ok x → (b ≡ false) × (y ≡ Ok x)
+ok_then true f y x e = cc
+ok_then false f y x e = (refl, e)
 
-ok_else : (b : Bool) (x y : Result Script ScriptFault) (s : Script) → (if b then x else y) ≡ Ok s → (y ≡ Ok s → ⊥) → (b ≡ true) × (x ≡ Ok s)
-ok_else true x y s e never = (refl, e)
-ok_else false x y s e never = absurd (never e)
-
-not_ok : (f : ScriptFault) (s : Script) → Err f ≡ Ok s → ⊥
-not_ok f s e = cc
+ok_else : {A : Type 0} (b : Bool) (x : Result A ScriptFault) (f : ScriptFault) (y : A) → (if b then x else Err f) ≡ Ok y → (b ≡ true) × (x ≡ Ok y)
+ok_else true x f y e = (refl, e)
+ok_else false x f y e = cc
 
 -- what goes on after a line that was good
-went_on : (n : ℕ) (r : Result Progress ℕ) (more : Progress → Result Script ScriptFault) (s : Script) → go_on n r more ≡ Ok s → (q : Progress) × (more q ≡ Ok s)
-went_on n (Ok q) more s e = (q, e)
-went_on n (Err kind) more s e = cc
+went_on : (r : Result Progress ScriptFault) (more : Progress → Result Script ScriptFault) (s : Script) → go_on r more ≡ Ok s → (q : Progress) × (r ≡ Ok q) × (more q ≡ Ok s)
+went_on (Ok q) more s e = (q, refl, e)
+went_on (Err f) more s e = cc
 
 -- the lines of a text that is read end before the long line does
 record Ends (m n : ℕ) (ls : List (List ℕ)) : Type 0 where
   few : n + length ls ≤ m + 1
   last : last_is_empty ls ≡ true
 
+-- a line that was good is not the long one
+not_long : (m n : ℕ) (p q : Progress) (l : List ℕ) → taken (Some m) n p l ≡ Ok q → (m == n) ≡ false
+unfolding taken
+not_long m n p q l e =
+    let open_ = ok_then p.ended (fault n 2) _ q e in
+    let short = ok_then (m == n) (fault n 8) (at_line n (judge n p l)) q open_.1 in
+    short.0
+
+closed_empty : (m n : ℕ) (p : Progress) (l : List ℕ) (s : Script) → closed (Some m) n p l ≡ Ok s → is_empty l ≡ true
+unfolding closed
+closed_empty m n p l s e =
+    let ended = ok_else p.ended (if is_empty l then Ok (script_from p) else Err (fault n 2)) (fault n (if is_line (Some m) n then 8 else 9)) s e in
+    let whole = ok_else (is_empty l) (Ok (script_from p)) (fault n 2) s ended.1 in
+    whole.0
+
 read_ends : (m n : ℕ) (p : Progress) (ls : List (List ℕ)) (s : Script) → judged (Some m) n p ls ≡ Ok s → n ≤ m → Ends m n ls
 unfolding judged last_is_empty
-read_ends m n p [] s e within = cc
-read_ends m n p (l ∷ []) s e within =
-    let ended = ok_else p.ended (if is_empty l then Ok (script_from p) else Err (fault n 2)) (Err (fault n (if is_line (Some m) n then 8 else 9))) s e (not_ok _ s) in
-    let whole = ok_else (is_empty l) (Ok (script_from p)) (Err (fault n 2)) s ended.1 (not_ok _ s) in
-    record { few = omega arith; last = whole.0 }
+read_ends m n p [] s e within = record { few = omega arith; last = refl }
+read_ends m n p (l ∷ []) s e within = record { few = omega arith; last = closed_empty m n p l s e }
 read_ends m n p (l ∷ k ∷ ls) s e within =
-    let after : Progress → Result Script ScriptFault = λ q. judged (Some m) (n + 1) q (k ∷ ls) in
-    let open_ = ok_then p.ended (Err (fault n 2)) (if is_line (Some m) n then Err (fault n 8) else go_on n (judge n p l) after) s e (λ _ x. not_ok _ s x) in
-    let short = ok_then (is_line (Some m) n) (Err (fault n 8)) (go_on n (judge n p l) after) s open_.1 (λ _ x. not_ok _ s x) in
-    let next = went_on n (judge n p l) after s short.1 in
-    let other : (m == n) ≡ false = short.0 in
+    let next = went_on (taken (Some m) n p l) (λ q. judged (Some m) (n + 1) q (k ∷ ls)) s e in
+    let other = not_long m n p next.0 l next.1 in
     let less : n < m = grind (arith, nat_tests) in
-    let rest = read_ends m (n + 1) next.0 (k ∷ ls) s next.1 (omega arith) in
+    let rest = read_ends m (n + 1) next.0 (k ∷ ls) s next.2 (omega arith) in
     record { few = omega (arith, rest.few); last = rest.last }
 
 -- a list of one piece
