@@ -3,5 +3,6 @@
 
 mod engine;
 mod pieces;
+mod rounds;
 
 fn main() {}
