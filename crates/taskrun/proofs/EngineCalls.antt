@@ -1,5 +1,5 @@
 -- What the engine's calls need, and what they make of its one task.
-use Rattle.std.proofs.Common.{◌≡◌, ◌≢◌, ℕ, zero, suc, ◌+◌, ◌-◌, ◌*◌, ◌^◌, ◌<◌, ◌≤◌, ◌==◌, ◌||◌, not, Bool, true, false, if◌then◌else◌, List, [], ◌∷◌, ◌++◌, length, refl, sym, ◌∙◌, ap, subst, arith}
+use Rattle.std.proofs.Common.{◌≡◌, true, sym, subst}
 use Rattle.task_machine.specs.declared.calls.Call.{Call}
 use Rattle.task_machine.specs.declared.calls.Call.TheVariants as calls
 use Rattle.task_machine.specs.declared.calls.Reply.{Reply}
@@ -7,7 +7,7 @@ use Rattle.task_machine.specs.declared.calls.NotLegal.{NotLegal}
 use Rattle.task_machine.specs.Step.{State, task_at, subject, is_named, fits, AllRoom, Roomy, Allowed, reply_of}
 use Rattle.task_machine.specs.Refusal.{Refused}
 use Rattle.task_machine.proofs.Replies.{Allowed-reply_of, Refused-not_allowed}
-use Rattle.taskrun.specs.Play.{worker, task}
+use Rattle.taskrun.specs.Play.{worker}
 
 -- where every task has room, each call has
 roomy : (s : State) (c : Call) → AllRoom s → Roomy c (task_at s (subject c))

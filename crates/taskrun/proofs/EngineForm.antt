@@ -1,8 +1,7 @@
 -- What a sound script of the first form looks like.
-use Rattle.std.proofs.Common.{◌≡◌, ◌≢◌, ℕ, zero, suc, ◌+◌, ◌<◌, ◌≤◌, ◌==◌, ◌&&◌, not, Bool, true, false, if◌then◌else◌, ℤ, pos, negsuc, List, [], ◌∷◌, length, nat_le, nat_lt, refl, sym, ◌∙◌, ap, subst, arith, IsTrue}
+use Rattle.std.proofs.Common.{◌≡◌, ℕ, ◌<◌, ◌≤◌, ◌&&◌, Bool, true, false, ℤ, pos, negsuc, List, [], ◌∷◌, length, nat_le, nat_lt, refl, ◌∙◌, ap, arith, IsTrue}
 use Rattle.std.proofs.lemmas.Bool.{eqb-true, leb-true, ltb-true}
 use Rattle.std.specs.List.{AllByRecursion, list_all}
-use Rattle.sched_base.specs.declared.names.TaskId.{TaskId}
 use Rattle.step_tables.specs.declared.tables.Action.{Action}
 use Rattle.step_tables.specs.declared.tables.Action.TheVariants.{Wake, Kill}
 use Rattle.step_tables.specs.declared.tables.Expiry.{Expiry}
@@ -16,7 +15,7 @@ use Rattle.step_tables.specs.declared.tables.TaskDef.{TaskDef}
 use Rattle.step_tables.specs.Words.{is_empty, is_name}
 use Rattle.step_tables.specs.Sound.{within, is_sound, is_sound_action, is_sound_expiry, is_sound_row, is_sound_kind, is_sound_task, is_first_form, is_plain_kind, is_plain_task, is_keep, has_plain_row, has_plain_task, is_zero}
 use Rattle.taskrun.specs.Stands.{IsAction}
-use Rattle.taskrun.proofs.Acts.{Form, script_of_form, row_of_form}
+use Rattle.taskrun.proofs.Acts.{Form, script_of_form}
 
 -- both of two tests
 pub both : (a b : Bool) → (a && b) ≡ true → (a ≡ true) × (b ≡ true)
@@ -84,11 +83,12 @@ row_is kind row keep h =
     let q = both (list_all (is_sound_action 1) row.actions) (is_sound_expiry kind row.expiry && nat_lt row.next 1) p.1 in
     let r = both (is_sound_expiry kind row.expiry) (nat_lt row.next 1) q.1 in
     let below : row.next < 1 = ltb-true row.next 1 r.1 in
-    let first : row.next ≡ 0 = omega arith in
-    (ap (λ (e : Expiry). let x : Row = record row { expiry = e } in x) (expiry_is row.expiry keep)
-     ∙ ap (λ (n : ℕ). let x : Row = record { actions = row.actions; expiry = Keep; next = n } in x) first,
-     actions_are row.actions q.0,
-     leb-true (length row.actions) 16 p.0)
+    let first : row.next ≡ 0 = omega arith in (
+      ap (λ (e : Expiry). let x : Row = record row { expiry = e } in x) (expiry_is row.expiry keep)
+          ∙ ap (λ (n : ℕ). let x : Row = record { actions = row.actions; expiry = Keep; next = n } in x) first,
+      actions_are row.actions q.0,
+      leb-true (length row.actions) 16 p.0,
+    )
 
 rows_are : (kind : Kind) (rows : List Row) → has_plain_row rows ≡ true → list_all (is_sound_row 1 kind (length rows)) rows ≡ true → (actions : List Action) × (rows ≡ record { actions = actions; expiry = Keep; next = 0 } ∷ []) × AllByRecursion IsAction actions × (length actions ≤ 16)
 rows_are kind [] plain h = cc
@@ -111,10 +111,10 @@ one_form s d one none alone plain sound =
     record {
       form = form;
       is = ap (λ (w : ℕ). let x : Script = record s { workers = w } in x) one
-        ∙ ap (λ (es : List Event). let x : Script = record s { workers = 1; events = es } in x) none
-        ∙ ap (λ (ts : List TaskDef). let x : Script = record s { workers = 1; events = []; tasks = ts } in x) alone
-        ∙ ap (λ (k : Kind). let x : Script = record s { workers = 1; events = []; tasks = record d { kind = k } ∷ [] } in x) (kind_is d.kind p.0)
-        ∙ ap (λ (rs : List Row). let x : Script = record s { workers = 1; events = []; tasks = record d { kind = Pinned 0 (pos 0); rows = rs } ∷ [] } in x) rows.1;
+          ∙ ap (λ (es : List Event). let x : Script = record s { workers = 1; events = es } in x) none
+          ∙ ap (λ (ts : List TaskDef). let x : Script = record s { workers = 1; events = []; tasks = ts } in x) alone
+          ∙ ap (λ (k : Kind). let x : Script = record s { workers = 1; events = []; tasks = record d { kind = k } ∷ [] } in x) (kind_is d.kind p.0)
+          ∙ ap (λ (rs : List Row). let x : Script = record s { workers = 1; events = []; tasks = record d { kind = Pinned 0 (pos 0); rows = rs } ∷ [] } in x) rows.1;
       actions = rows.2;
       few = rows.3;
     }

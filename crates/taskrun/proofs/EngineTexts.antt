@@ -1,7 +1,7 @@
 -- The entries of a turn have a text, and the text of the run is written round by round.
-use Rattle.std.proofs.Common.{◌≡◌, ◌≢◌, ℕ, zero, suc, ◌+◌, ◌-◌, ◌*◌, ◌^◌, ◌<◌, ◌≤◌, ◌==◌, ◌||◌, not, Bool, true, false, if◌then◌else◌, List, [], ◌∷◌, ◌++◌, length, slice_index_or, fold, refl, sym, ◌∙◌, ap, subst, arith, append_assoc, append-nil, add-zero, zero-add}
+use Rattle.std.proofs.Common.{◌≡◌, ◌≢◌, ℕ, zero, suc, ◌+◌, ◌-◌, ◌^◌, ◌<◌, Bool, true, false, if◌then◌else◌, List, [], ◌∷◌, ◌++◌, length, refl, sym, ◌∙◌, ap, subst, arith, append_assoc, append-nil, add-zero, zero-add}
 use Rattle.std.specs.List.{All, AllByRecursion}
-use Rattle.std.proofs.lemmas.List.Elements.{All-push}
+use Rattle.std.proofs.lemmas.List.Elements.{All-push, All-nil}
 use Rattle.sched_base.specs.declared.names.TaskId.{TaskId}
 use Rattle.step_tables.specs.declared.tables.Action.{Action}
 use Rattle.step_tables.specs.declared.tables.Action.TheVariants.{Wake, Kill}
@@ -9,24 +9,21 @@ use Rattle.step_tables.specs.declared.tables.Script.{Script}
 use Rattle.step_tables.specs.declared.tables.TaskDef.{TaskDef}
 use Rattle.task_machine.specs.declared.task.Place.{Place}
 use Rattle.task_machine.specs.declared.task.Place.TheVariants as places
-use Rattle.task_machine.specs.declared.task.TaskState.{TaskState}
 use Rattle.task_machine.specs.declared.calls.Call.{Call}
 use Rattle.task_machine.specs.declared.calls.Call.TheVariants as calls
-use Rattle.task_machine.specs.declared.calls.Reply.{Reply}
-use Rattle.task_machine.specs.declared.calls.Entry.{Entry}
 use Rattle.task_machine.specs.Task.{is_busy, seen_of}
 use Rattle.task_machine.specs.Step.{State, task_at, after}
-use Rattle.run_model.specs.Run.{Round, Run}
+use Rattle.run_model.specs.Run.{Round}
 use Rattle.run_model.specs.Replies.{is_killed, has_reasons}
 use Rattle.run_model.specs.Standing.{next_tick}
 use Rattle.run_model.specs.Tables.{call_of}
 use Rattle.transcript.specs.HasText.{HasTextSeen, HasTextCall, HasTextEntry}
 use Rattle.transcript.specs.Spelling.{text_of, head_text, round_text, rounds_text, end_text}
 use Rattle.transcript.proofs.Pieces.{text_of_pieces}
-use Rattle.taskrun.specs.Play.{worker, task, World, made, replied, collected, acted_all, ended, ended_as, ran, ran_as, served, turn_with, turned, actions_of, is_quiet, cleared, rounds_from, rests_from, opened, play}
-use Rattle.taskrun.specs.Stands.{at, one, Stands, IsAction, Settled, place_in}
+use Rattle.taskrun.specs.Play.{worker, task, World, made, replied, collected, acted_all, ended, ran, turn_with, turned, actions_of, is_quiet, cleared, rounds_from, rests_from, opened, play}
+use Rattle.taskrun.specs.Stands.{at, Stands, IsAction, Settled}
 use Rattle.taskrun.specs.Engine.{Waiting, Ready}
-use Rattle.taskrun.proofs.OneTask.{is_task_id, after_take, after_act, after_retire}
+use Rattle.taskrun.proofs.OneTask.{is_task_id, after_take, after_act}
 use Rattle.taskrun.proofs.EngineForm.{Formed}
 use Rattle.taskrun.proofs.EngineTurns.{settled_collected, queued_in_hands, actions_by}
 
@@ -55,6 +52,10 @@ seen_alone s n a few =
 texts_made : (c : Call) (w : World) → Texts w → HasTextCall c (replied c w) → Texts (made c w)
 texts_made c w texts has = All-push HasTextEntry w.entries _ texts has
 
+-- a round begins with no entries
+pub texts_clear : (w : World) → w.entries ≡ [] → Texts w
+texts_clear w e = subst (λ es. All HasTextEntry es) (sym e) (All-nil HasTextEntry)
+
 text_get : (w : World) → Texts w → Texts (collected w)
 text_get w texts = texts_made (calls.Get 0) w texts tt
 
@@ -82,15 +83,16 @@ texts_acted (a ∷ actions) w n ok few h =
 
 -- a drop leaves the one task alone
 alone_dropped : (s : State) (n : ℕ) → Stands s (places.Runs worker) n → Alone (after s worker (calls.DropRun task)) n
-alone_dropped s n st =
-    (if is_busy (at (places.Runs worker) st.pending st.killed st.takes) then places.Hands worker else places.Rest,
-     record {
-       pending = st.pending;
-       killed = st.killed;
-       takes = st.takes;
-       alone = ap (λ s. after s worker (calls.DropRun task)) st.alone;
-       few = st.few;
-     })
+alone_dropped s n st = (
+  if is_busy (at (places.Runs worker) st.pending st.killed st.takes) then places.Hands worker else places.Rest,
+  record {
+    pending = st.pending;
+    killed = st.killed;
+    takes = st.takes;
+    alone = ap (λ s. after s worker (calls.DropRun task)) st.alone;
+    few = st.few;
+  },
+)
 
 texts_retired : (b : Bool) (w v : World) (n : ℕ) → Texts w → Texts v → Alone w.state n → n < 2 ^ 48 → Texts (if b then made (calls.Retire task) w else v)
 texts_retired true w v n texts others a few = texts_made (calls.Retire task) w texts (seen_alone w.state n a few)

@@ -1,21 +1,19 @@
 -- Where the one task stands after the parts of a turn.
-use Rattle.std.proofs.Common.{◌≡◌, ℕ, zero, suc, ◌+◌, ◌-◌, ◌*◌, ◌^◌, ◌<◌, ◌≤◌, ◌==◌, ◌||◌, not, Bool, true, false, if◌then◌else◌, pos, List, [], ◌∷◌, ◌++◌, length, Option, Some, None, slice_get, slice_index_or, replicate, refl, sym, ◌∙◌, ap, subst, arith, lit<}
+use Rattle.std.proofs.Common.{◌≡◌, ℕ, ◌+◌, ◌-◌, ◌^◌, ◌<◌, ◌≤◌, Bool, true, false, if◌then◌else◌, List, [], ◌∷◌, length, Some, slice_get, slice_index_or, replicate, refl, sym, ◌∙◌, ap, subst, arith, lit<}
 use Rattle.std.specs.List.{AllByRecursion}
 use Rattle.step_tables.specs.declared.tables.Action.{Action}
 use Rattle.step_tables.specs.declared.tables.Script.{Script}
 use Rattle.step_tables.specs.declared.tables.TaskDef.{TaskDef}
-use Rattle.task_machine.specs.declared.task.Place.{Place}
 use Rattle.task_machine.specs.declared.task.Place.TheVariants as places
-use Rattle.task_machine.specs.declared.calls.Call.TheVariants as calls
 use Rattle.task_machine.specs.declared.calls.Entry.{Entry}
 use Rattle.task_machine.specs.Task.{resting, seated}
 use Rattle.task_machine.specs.Step.{State, task_at, put_task, mask_of}
 use Rattle.run_model.specs.Standing.{opening}
 use Rattle.run_model.specs.Tables.{blank_row, blank_task}
-use Rattle.taskrun.specs.Play.{worker, task, World, made, collected, ran, served, turn_with, turned, actions_of, opened, cleared}
+use Rattle.taskrun.specs.Play.{worker, World, collected, ran, turn_with, turned, actions_of, opened, cleared}
 use Rattle.taskrun.specs.Stands.{at, one, Stands, IsAction, Phase, rests, waits, boxed, is_over, place_in, queued_in, Settled}
-use Rattle.taskrun.specs.Engine.{Waiting, Ready, InHands, first_init}
-use Rattle.taskrun.proofs.Acts.{Form, script_of_form, row_of_form, world, book, runs}
+use Rattle.taskrun.specs.Engine.{Waiting, Ready, first_init}
+use Rattle.taskrun.proofs.Acts.{Form, script_of_form, world, runs}
 use Rattle.taskrun.proofs.EngineForm.{OneForm, Formed}
 
 -- a settled world by its parts
@@ -76,8 +74,11 @@ settled_ran actions w n ok st room =
     subst (λ (s : State). let v : World = record w { state = s } in Settled (ran actions v) (n + 1)) (sym st.alone)
     (settled_after_run actions st.pending st.killed st.takes n w.queued w.entries ok st.few room)
 
+settled_up : (w : World) (n m : ℕ) → n ≤ m → Settled w n → Settled w m
+settled_up w n m le st = settled_by st.phase st.stands.pending st.stands.killed st.stands.takes m w (omega (arith, st.stands.few)) st.stands.alone st.queued
+
 settled_more : (w : World) (n : ℕ) → Settled w n → Settled w (n + 1)
-settled_more w n st = settled_by st.phase st.stands.pending st.stands.killed st.stands.takes (n + 1) w (omega (arith, st.stands.few)) st.stands.alone st.queued
+settled_more w n st = settled_up w n (n + 1) (omega arith) st
 
 settled_served : (queued : Bool) (actions : List Action) (w : World) (n : ℕ) → w.queued ≡ queued → AllByRecursion IsAction actions → Settled w n → n < 2 ^ 48 - 1 → Settled (if queued then ran actions w else w) (n + 1)
 settled_served true actions w n e ok st room = settled_ran actions w n ok (queued_in_hands w n st e) room
@@ -117,6 +118,22 @@ first_by (x ∷ xs) s d e form first = first_of_form s d form (first ∙ ap (λ 
 -- the first task of a script of the first form
 pub first_task : (s : Script) (d : TaskDef) → Formed s.tasks s → Some d ≡ slice_get s.tasks 0 → FirstTask d
 first_task s d form first = first_by s.tasks s d refl form first
+
+waiting_up : (tasks : List TaskDef) (w : World) (n m : ℕ) → n ≤ m → Waiting tasks w n → Waiting tasks w m
+waiting_up [] w n m le ready = ready
+waiting_up (d ∷ ds) w n m le ready = settled_up w n m le ready
+
+-- at most n takes are at most m
+pub ready_up : (s : Script) (w : World) (n m : ℕ) → n ≤ m → Ready s w n → Ready s w m
+ready_up s w n m le ready = waiting_up s.tasks w n m le ready
+
+waiting_cleared : (tasks : List TaskDef) (w : World) (n : ℕ) → Waiting tasks w n → Waiting tasks (cleared w) n
+waiting_cleared [] w n ready = ready
+waiting_cleared (d ∷ ds) w n st = settled_by st.phase st.stands.pending st.stands.killed st.stands.takes n (cleared w) st.stands.few st.stands.alone st.queued
+
+-- the entries do not matter
+pub ready_cleared : (s : Script) (w : World) (n : ℕ) → Ready s w n → Ready s (cleared w) n
+ready_cleared s w n ready = waiting_cleared s.tasks w n ready
 
 ready_first : (tasks : List TaskDef) (d : TaskDef) (w : World) (n : ℕ) → Some d ≡ slice_get tasks 0 → Waiting tasks w n → Settled w n
 ready_first [] d w n first ready = cc

@@ -10,3 +10,4 @@ pub mod EngineCalls
 pub mod EngineForm
 pub mod EngineTurns
 pub mod EngineTexts
+pub mod EngineWrites

@@ -1,12 +1,11 @@
 -- The engine as contracts see it, and where its one task stands when a call comes (docs/MODEL.md, "The first engine").
 use Rattle.std.specs.Prelude.{◌≡◌, ℕ, ◌+◌, ◌^◌, ◌≤◌, Bool, false, List, [], ◌∷◌, length}
-use Rattle.std.specs.List.{AllByRecursion}
 use Rattle.task_machine.specs.declared.task.Place.TheVariants as places
 use Rattle.step_tables.specs.declared.tables.Script.{Script}
 use Rattle.step_tables.specs.declared.tables.TaskDef.{TaskDef}
 use Rattle.taskrun.specs.declared.engine.Engine.{Engine}
-use Rattle.taskrun.specs.Play.{worker, World, actions_of}
-use Rattle.taskrun.specs.Stands.{Stands, IsAction, Settled}
+use Rattle.taskrun.specs.Play.{worker, World}
+use Rattle.taskrun.specs.Stands.{Stands, Settled}
 
 -- the machine's state, whether the task is queued, and the entries of the round
 abbrev pub world_of : Engine → World

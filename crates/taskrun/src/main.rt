@@ -3,6 +3,8 @@
 
 mod engine;
 mod pieces;
+mod rounds;
 mod status;
+mod top;
 
 fn main() {}

@@ -1,4 +1,4 @@
-use Rattle.std.proofs.Common.{◌≡◌, ◌≤◌, Bool, true, ap, sym, ◌∙◌, arith, length, replicate, refl}
+use Rattle.std.proofs.Common.{◌≡◌, true, ap, sym, ◌∙◌, arith, length, replicate, refl}
 use Rattle.task_machine.specs.Step.{State}
 use Rattle.task_machine.specs.Task.{resting}
 use Rattle.taskrun.specs.Engine.{first_init}
@@ -34,6 +34,6 @@ returns c =
     let flag : c.is_first_init.result ≡ first_init s.tasks = c.is_first_init.ensures ∙ ap (λ ts. first_init ts) c.as_slice-tasks.ensures in
     let right = opened_state s (formed s c.requires.sound c.requires.form) in
     elim c.if-is_first_init.branch [
-      then-is_first_init w ↦ w.machine-is ∙ w.seat_init.ensures ∙ ap (λ m. seated_where true m) start ∙ ap (λ b. seated_where b (resting_all s)) (sym w.if-is_first_init.true ∙ flag) ∙ right
-    | else-is_first_init w ↦ w.machine-is ∙ start ∙ ap (λ b. seated_where b (resting_all s)) (sym w.if-is_first_init.false ∙ flag) ∙ right
+      | then-is_first_init w ↦ w.machine-is ∙ w.seat_init.ensures ∙ ap (λ m. seated_where true m) start ∙ ap (λ b. seated_where b (resting_all s)) (sym w.if-is_first_init.true ∙ flag) ∙ right
+      | else-is_first_init w ↦ w.machine-is ∙ start ∙ ap (λ b. seated_where b (resting_all s)) (sym w.if-is_first_init.false ∙ flag) ∙ right
     ]

@@ -1,4 +1,4 @@
-use Rattle.std.proofs.Common.{◌≡◌, ◌+◌, ◌≤◌, ◌^◌, ap, sym, ◌∙◌, arith, slice_get, length, length-append, subst}
+use Rattle.std.proofs.Common.{◌^◌, ap, sym, ◌∙◌, arith, slice_get, length, length-append}
 use Rattle.taskrun.specs.Play.{World}
 use Rattle.taskrun.proofs.EngineForm.{formed}
 use Rattle.taskrun.proofs.EngineTurns.{first_task, ready_settled, settled_collected, queued_in_hands, settled_world}
