@@ -3,6 +3,7 @@ pub mod Pieces
 pub mod Digits
 pub mod Reasons
 pub mod Options
+pub mod Good
 pub mod ListViews
 pub mod Back
 pub mod Orders

@@ -277,11 +277,15 @@ unfoldable pub said_in : Option Setting → List Word → Option Said
 said_in None ws = body_line ws
 said_in (Some setting) ws = setting_line setting ws
 
+-- what line n says, where its words fit a shape
+unfoldable pub said_of : ℕ → List ℕ → Option Said
+said_of n line = words_of line >>= said_in (setting_at n)
+
 -- a complete line: the kind of its fault, or what is read with it
 unfoldable pub judge : ℕ → Progress → List ℕ → Result Progress ℕ
 judge n p line = if n == 1
     then (if line is "taskscript 1" then Ok p else Err 1)
-    else judge_said p (words_of line >>= said_in (setting_at n))
+    else judge_said p (said_of n line)
 
 -- the most bytes that a script may have
 abbrev pub byte_limit : ℕ

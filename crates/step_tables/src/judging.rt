@@ -11,7 +11,7 @@ use crate::tables::{Event, Kind, TaskDef};
 use crate::values::{delay_no_number, delay_outside, no_number, outside, place_no_number, place_outside, value};
 
 /// The least that a setting may be.
-fn least(setting: Setting) -> u64
+pub(crate) fn least(setting: Setting) -> u64
     ensures { result ≡ least setting }
 {
     match setting {
@@ -21,7 +21,7 @@ fn least(setting: Setting) -> u64
 }
 
 /// The most that a setting may be.
-fn most(setting: Setting) -> u64
+pub(crate) fn most(setting: Setting) -> u64
     ensures { result ≡ most setting }
 {
     match setting {
@@ -78,14 +78,14 @@ fn last_round(events: &[Event]) -> u32
 
 impl Progress {
     /// The task whose rows come now.
-    fn due(&self) -> Option<&TaskDef>
+    pub fn due(&self) -> Option<&TaskDef>
         ensures { option_map (λ task. task.now) result ≡ due self.now }
     {
         self.tasks.as_slice().get(self.at)
     }
 
     /// How many rows its line promised.
-    fn promised(&self) -> u32
+    pub fn promised(&self) -> u32
         ensures { result ≡ promised self.now }
     {
         match self.counts.as_slice().get(self.at) {

@@ -2,10 +2,12 @@
 #![tactic(auto)]
 
 mod faults;
+mod adding;
 mod judging;
 mod lists;
 mod names;
 mod progress;
+mod reading;
 mod shapes;
 mod tables;
 mod values;

@@ -119,6 +119,23 @@ impl Rows {
     }
 }
 
+impl Rows {
+    /// No rows.
+    pub(crate) fn new(alloc: Global) -> Rows
+        ensures { result ≡ [] }
+    {
+        Rows { list: Vec::new(alloc) }
+    }
+
+    /// One row more.
+    pub(crate) fn push(&mut self, row: Row) -> Result<(), AllocError>
+        ensures { OnOk result (self.new ≡ self.old ++ row ∷ []) }
+    {
+        self.list.push(row)?;
+        Ok(())
+    }
+}
+
 /// The tasks of a script, from task 0 on.
 #[derive(Debug, Drop)]
 pub struct Tasks {
@@ -157,6 +174,38 @@ impl Tasks {
     }
 }
 
+impl Tasks {
+    ghost use Rattle.std.specs.Prelude.{slice_get, slice_set, ◌<◌, length};
+    ghost use Rattle.step_tables.specs.declared.tables.TaskDef.{TaskDef};
+    ghost use Rattle.step_tables.specs.Judging.{with_row_at_end};
+
+    /// No tasks.
+    pub(crate) fn new(alloc: Global) -> Tasks
+        ensures { result ≡ [] }
+    {
+        Tasks { list: Vec::new(alloc) }
+    }
+
+    /// One task more.
+    pub(crate) fn push(&mut self, task: TaskDef) -> Result<(), AllocError>
+        ensures { OnOk result (self.new ≡ self.old ++ task ∷ []) }
+    {
+        self.list.push(task)?;
+        Ok(())
+    }
+
+    /// One row more at the end of a task's rows.
+    #[tactic(auto, unfolding(crate::specs::Judging::with_row_at_end))]
+    pub(crate) fn add_row(&mut self, at: usize, row: Row) -> Result<(), AllocError>
+        requires { at < length self.old }
+        ensures { (task : TaskDef) → slice_get self.old at ≡ Some task
+            → OnOk result (self.new ≡ slice_set self.old at (with_row_at_end task row)) }
+    {
+        let task = &mut self.list[at];
+        task.rows.push(row)
+    }
+}
+
 /// The events of a script, in their order.
 #[derive(Debug, Drop)]
 pub struct Events {
@@ -192,6 +241,22 @@ impl Events {
         ensures { result.now ≡ self.now }
     {
         self.list.as_slice()
+    }
+}
+
+impl Events {
+    /// No events.
+    pub(crate) fn new(alloc: Global) -> Events
+        ensures { result ≡ [] }
+    {
+        Events { list: Vec::new(alloc) }
+    }
+
+    /// One event more.
+    pub(crate) fn push(&mut self, event: Event) -> Result<(), AllocError>
+        ensures { OnOk result (self.new ≡ self.old ++ event ∷ []) }
+    {
+        self.list.extend_from_slice(&[event])
     }
 }
 

@@ -26,7 +26,8 @@ fn end_of_piece(at: u8, bytes: &[u8]) -> Option<usize>
 /// The piece before the first byte that is `at`, and what follows that byte.
 #[tactic(auto, using(crate::proofs::Pieces::pieces_at_end, crate::proofs::Pieces::pieces_at_none))]
 pub(crate) fn piece_at(at: u8, bytes: &[u8]) -> (&[u8], Option<&[u8]>)
-    ensures { pieces at bytes.now ≡ result.0.now ∷ pieces_left at result.1 }
+    ensures same { pieces at bytes.now ≡ result.0.now ∷ pieces_left at result.1 }
+    ensures shorter { IfSome result.1 (λ more. length more.now < length bytes.now) }
 {
     match end_of_piece(at, bytes) {
         Some(end) => (&bytes[..end], Some(&bytes[end + 1..])),

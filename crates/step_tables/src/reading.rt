@@ -1,0 +1,174 @@
+//! Reading a script, line by line.
+
+ghost use Rattle.std.specs.Prelude.{◌≡◌, ℕ, ◌<◌, ◌≤◌, ◌+◌, ◌^◌, length, Option, option_map, Ok, Err, Some, IfSome, IfOk, ◌-◌};
+ghost use Rattle.step_tables.specs.declared.faults.ScriptError.TheVariants.{Refused};
+ghost use Rattle.step_tables.specs.Words.{words_of};
+ghost use Rattle.step_tables.specs.Shapes.{setting_line, body_line};
+ghost use Rattle.step_tables.specs.Judging.{judge_said, setting_at, said_in, said_of, judge, long_line, is_line, taken, closed, fault, script_within, script_of};
+ghost use Rattle.step_tables.specs.Views.{said_view, Judges, Takes, Gives, words_in};
+
+use crate::faults::{ScriptError, ScriptFault};
+use crate::progress::{Progress, Refusal};
+use crate::shapes::{body_line, setting_line, Said, Setting};
+use crate::tables::Script;
+use crate::words::{piece_at, Words};
+use std::alloc::{AllocError, Global};
+
+/// The most bytes that a script may have.
+const BYTE_LIMIT: usize = 4_194_304;
+
+/// The setting whose line this is.
+#[tactic(auto, unfolding(crate::specs::Judging::setting_at))]
+fn setting_at(number: u32) -> Option<Setting>
+    requires { 1 < number }
+    ensures { result ≡ setting_at number }
+{
+    match number {
+        2 => Some(Setting::Workers),
+        3 => Some(Setting::Depth),
+        4 => Some(Setting::Start),
+        5 => Some(Setting::Step),
+        6 => Some(Setting::Rounds),
+        _ => None,
+    }
+}
+
+/// What the line says, by its number.
+#[tactic(auto, unfolding(crate::specs::Judging::said_in))]
+fn said_in<'a>(
+    alloc: Global,
+    number: u32,
+    words: Words<'a>,
+) -> Result<Option<Said<'a>>, AllocError>
+    requires { 1 < number }
+    ensures { IfOk result (λ said. option_map said_view said ≡ said_in (setting_at number) (words_in words.entry)) }
+{
+    match setting_at(number) {
+        None => body_line(alloc, words),
+        Some(setting) => Ok(setting_line(setting, words)),
+    }
+}
+
+/// What the line says, where its words fit a shape.
+#[tactic(auto, unfolding(crate::specs::Judging::said_of))]
+fn said_of<'a>(
+    alloc: Global,
+    number: u32,
+    line: &'a [u8],
+) -> Result<Option<Said<'a>>, AllocError>
+    requires { 1 < number }
+    ensures { IfOk result (λ said. option_map said_view said ≡ said_of number line.now) }
+{
+    match Words::of(line) {
+        None => Ok(None),
+        Some(words) => said_in(alloc, number, words),
+    }
+}
+
+impl Progress {
+    /// Judges what a line says, and adds it where it has no fault.
+    #[tactic(auto, unfolding(crate::specs::Judging::judge_said, crate::specs::Judging::judge_tested))]
+    fn take_said(&mut self, alloc: Global, said: &Said<'_>) -> Result<(), Refusal>
+        requires { length self.old.tasks ≤ 4096 }
+        ensures { Judges result self.new (judge_said self.old (Some (said_view said.now))) }
+    {
+        if !self.may_come(said) {
+            return Err(Refusal::Kind(2));
+        }
+        match self.fault_of(said) {
+            Some(kind) => Err(Refusal::Kind(kind)),
+            None => {
+                self.add(alloc, said)?;
+                Ok(())
+            }
+        }
+    }
+
+    /// Judges a complete line, and adds it where it has no fault.
+    #[tactic(auto, unfolding(crate::specs::Judging::judge, crate::specs::Judging::judge_said))]
+    fn judge(&mut self, alloc: Global, number: u32, line: &[u8]) -> Result<(), Refusal>
+        requires few { length self.old.tasks ≤ 4096 }
+        requires first { 1 ≤ number }
+        ensures { Judges result self.new (judge number self.old line.now) }
+    {
+        if number == 1 {
+            return if line == b"taskscript 1".as_slice() {
+                Ok(())
+            } else {
+                Err(Refusal::Kind(1))
+            };
+        }
+        match said_of(alloc, number, line)? {
+            None => Err(Refusal::Kind(2)),
+            Some(said) => self.take_said(alloc, &said),
+        }
+    }
+
+    /// Takes a complete line, or answers its fault.
+    #[tactic(auto, unfolding(crate::specs::Judging::taken))]
+    fn take_line(
+        &mut self,
+        alloc: Global,
+        long: Option<u32>,
+        number: u32,
+        line: &[u8],
+    ) -> Result<(), ScriptError>
+        requires few { length self.old.tasks ≤ 4096 }
+        requires first { 1 ≤ number }
+        ensures { Takes result self.new (taken long number self.old line.now) }
+    {
+        if self.ended {
+            return refuse(number, 2);
+        }
+        if long == Some(number) {
+            return refuse(number, 8);
+        }
+        match self.judge(alloc, number, line) {
+            Ok(()) => Ok(()),
+            Err(Refusal::NoMemory) => Err(ScriptError::Memory),
+            Err(Refusal::Kind(kind)) => refuse(number, kind),
+        }
+    }
+
+    /// The script, where the line `end` has come and nothing stands behind it.
+    #[tactic(auto, unfolding(crate::specs::Judging::closed, crate::specs::Judging::script_from))]
+    fn close(self, long: Option<u32>, number: u32, piece: &[u8]) -> Result<Script, ScriptError>
+        ensures { Gives result (closed long number self piece.now) }
+    {
+        if !self.ended {
+            return refuse(number, if long == Some(number) { 8 } else { 9 });
+        }
+        if !piece.is_empty() {
+            return refuse(number, 2);
+        }
+        Ok(Script {
+            workers: self.workers,
+            depth: self.depth,
+            start: self.start,
+            step: self.step,
+            rounds: self.rounds,
+            tasks: self.tasks,
+            events: self.events,
+        })
+    }
+}
+
+/// The fault of a line.
+fn refuse<T>(line: u32, kind: u8) -> Result<T, ScriptError>
+    ensures { result ≡ Err (Refused (fault line kind)) }
+{
+    Err(ScriptError::Refused(ScriptFault { line, kind }))
+}
+
+/// The line in which the byte behind the limit stands.
+#[tactic(auto, unfolding(crate::specs::Judging::long_line))]
+fn long_line(limit: usize, bytes: &[u8]) -> Option<u32>
+    requires { length bytes.now < 2 ^ 32 - 1 }
+    ensures { result ≡ long_line limit bytes.now }
+{
+    if bytes.len() <= limit {
+        return None;
+    }
+    let before = bytes[..limit].iter().filter(|byte| **byte == b'\n').count();
+    Some(before as u32 + 1)
+}
