@@ -71,6 +71,17 @@ Expected read NoMemory = Unit {0}
 Expected read (NotLawful line) = ⊥
 Expected read (TextRefused fault) = ⊥
 
+-- an answer that comes once the script's text is read
+abbrev pub IsRunning : Status → Type 0
+IsRunning Done = Unit {0}
+IsRunning (ScriptRefused fault) = Unit {0}
+IsRunning Usage = ⊥
+IsRunning ReadFault = ⊥
+IsRunning WriteFault = Unit {0}
+IsRunning NoMemory = Unit {0}
+IsRunning (NotLawful line) = ⊥
+IsRunning (TextRefused fault) = ⊥
+
 -- at most so many bytes were read
 abbrev pub ReadsAtMost : ℕ → Option (List ℕ) → Option (List ℕ) → Type 0
 ReadsAtMost most before after = (piece : List ℕ) × (length piece ≤ most) × Reads before after piece
