@@ -1,16 +1,14 @@
 -- What is known of a line without a fault.
-use Rattle.std.proofs.Common.{◌≡◌, ℕ, suc, zero, ◌+◌, ◌≤◌, ◌<◌, Bool, true, false, cond, List, [], ◌∷◌, length, refl, ap, sym, ◌∙◌, arith}
-use Rattle.std.specs.Prelude.{Option, Some, None, bytes_eq, not, ◌||◌, ◌==◌, nat_lt, nat_le, slice_get, is_none}
+use Rattle.std.proofs.Common.{◌≡◌, ℕ, suc, zero, ◌≤◌, ◌<◌, Bool, true, false, cond, List, [], ◌∷◌, length, refl, sym, arith}
+use Rattle.std.specs.Prelude.{Option, Some, None, bytes_eq, not, ◌||◌, nat_lt, nat_le, slice_get}
 use Rattle.std.specs.List.{list_any}
 use Rattle.std.proofs.lemmas.Option.{none-some}
 use Rattle.std.proofs.lemmas.Bool.{ltb-false, eqb-true}
 use Rattle.std.proofs.lemmas.Bool.Decides.{nat_tests}
 use Rattle.step_tables.specs.declared.tables.TaskDef.{TaskDef}
 use Rattle.step_tables.specs.declared.progress.Progress.{Progress}
-use Rattle.step_tables.specs.declared.shapes.Setting.{Setting}
-use Rattle.step_tables.specs.Words.{Word}
 use Rattle.step_tables.specs.Shapes.{TaskLine, RowLine, EventLine}
-use Rattle.step_tables.specs.Judging.{first_fault, setting_tests, task_tests, row_tests, event_tests, no_number, delay_no_number, place_no_number, place_outside, delay_outside, outside, value, unknown, order_name, due, promised, wrong_target, barred, last_round, least, most}
+use Rattle.step_tables.specs.Judging.{first_fault, task_tests, row_tests, event_tests, place_outside, delay_outside, outside, value, unknown, order_name, due, promised, wrong_target, barred, last_round}
 
 -- no kind was found, so the first test does not hold, and no kind is found behind it
 pub passes : (b : Bool) (kind : ℕ) (rest : Option ℕ) → cond b (Some kind) rest ≡ None → (b ≡ false) × (rest ≡ None)
@@ -41,9 +39,9 @@ pub record Target (p : Progress) (line : RowLine) (task : TaskDef) : Type 0 wher
 target : (p : Progress) (line : RowLine) (d : Option TaskDef) → due p ≡ d → wrong_target p d line ≡ false → (task : TaskDef) × Target p line task
 target p line None is_due e = absurd (cc)
 target p line (Some task) is_due e =
-  let (name, more) = neither _ _ e in
-  let (number, next) = neither _ _ more in
-  (task, record { is_due = is_due; name = not_false _ name; number = eqb-true _ _ (not_false _ number); next = not_le _ _ next })
+    let (name, more) = neither _ _ e in
+    let (number, next) = neither _ _ more in
+    (task, record { is_due = is_due; name = not_false _ name; number = eqb-true _ _ (not_false _ number); next = not_le _ _ next })
   where
     not_le : (a b : ℕ) → nat_le a b ≡ false → b < a
     not_le a b h = grind (arith, nat_tests)
@@ -59,13 +57,13 @@ pub record GoodRow (p : Progress) (line : RowLine) : Type 0 where
 
 pub good_row : (p : Progress) (line : RowLine) → first_fault (row_tests p line) ≡ None → GoodRow p line
 good_row p line e =
-  let (numbers, e_2) = passes _ _ _ e in
-  let (names, e_3) = passes _ _ _ e_2 in
-  let (row, e_4) = passes _ _ _ e_3 in
-  let (expiry, e_5) = passes _ _ _ e_4 in
-  let (ranges, e_6) = passes _ _ _ e_5 in
-  let (task, is_target) = target p line (due p) refl row in
-  record { task = task; target = is_target; known = (neither _ _ names).1; expiry = expiry; few = (neither _ _ ranges).0; ticks = (neither _ _ ranges).1 }
+    let (numbers, e_2) = passes _ _ _ e in
+    let (names, e_3) = passes _ _ _ e_2 in
+    let (row, e_4) = passes _ _ _ e_3 in
+    let (expiry, e_5) = passes _ _ _ e_4 in
+    let (ranges, e_6) = passes _ _ _ e_5 in
+    let (task, is_target) = target p line (due p) refl row in
+    record { task = task; target = is_target; known = (neither _ _ names).1; expiry = expiry; few = (neither _ _ ranges).0; ticks = (neither _ _ ranges).1 }
 
 -- a good event
 pub record GoodEvent (p : Progress) (line : EventLine) : Type 0 where
@@ -76,12 +74,12 @@ pub record GoodEvent (p : Progress) (line : EventLine) : Type 0 where
 
 pub good_event : (p : Progress) (line : EventLine) → first_fault (event_tests p line) ≡ None → GoodEvent p line
 good_event p line e =
-  let (numbers, e_2) = passes _ _ _ e in
-  let (names, e_3) = passes _ _ _ e_2 in
-  let (ranges, e_4) = passes _ _ _ e_3 in
-  let (round, more) = neither _ _ ranges in
-  let (few, rising) = neither _ _ more in
-  record { known = names; round = not_le _ _ round; few = few; rising = ltb-false _ _ rising }
+    let (numbers, e_2) = passes _ _ _ e in
+    let (names, e_3) = passes _ _ _ e_2 in
+    let (ranges, e_4) = passes _ _ _ e_3 in
+    let (round, more) = neither _ _ ranges in
+    let (few, rising) = neither _ _ more in
+    record { known = names; round = not_le _ _ round; few = few; rising = ltb-false _ _ rising }
   where
     not_le : (a b : ℕ) → nat_le a b ≡ false → b < a
     not_le a b h = grind (arith, nat_tests)
@@ -95,9 +93,9 @@ pub record GoodTask (p : Progress) (line : TaskLine) : Type 0 where
 
 pub good_task : (p : Progress) (line : TaskLine) → first_fault (task_tests p line) ≡ None → GoodTask p line
 good_task p line e =
-  let (numbers, e_2) = passes _ _ _ e in
-  let (names, e_3) = passes _ _ _ e_2 in
-  let (ranges, e_4) = passes _ _ _ e_3 in
-  let (place, more) = neither _ _ ranges in
-  let (rows, few) = neither _ _ more in
-  record { new = not_false _ names; place = place; rows = rows; few = few }
+    let (numbers, e_2) = passes _ _ _ e in
+    let (names, e_3) = passes _ _ _ e_2 in
+    let (ranges, e_4) = passes _ _ _ e_3 in
+    let (place, more) = neither _ _ ranges in
+    let (rows, few) = neither _ _ more in
+    record { new = not_false _ names; place = place; rows = rows; few = few }

@@ -4,6 +4,8 @@ pub mod Digits
 pub mod Reasons
 pub mod Options
 pub mod Good
+pub mod Steps
+pub mod LineLoop
 pub mod ListViews
 pub mod Back
 pub mod Orders

@@ -319,8 +319,8 @@ taken long n p line = if p.ended then Err (fault n 2) else (if is_line long n th
 -- what the open piece makes of what was read before
 unfoldable pub closed : Option ℕ → ℕ → Progress → List ℕ → Result Script ScriptFault
 closed long n p piece = if p.ended
-  then (if is_empty piece then Ok (script_from p) else Err (fault n 2))
-  else Err (fault n (if is_line long n then 8 else 9))
+    then (if is_empty piece then Ok (script_from p) else Err (fault n 2))
+    else Err (fault n (if is_line long n then 8 else 9))
 
 -- the fault of the lines so far, or what the next lines make
 abbrev pub go_on : Result Progress ScriptFault → (Progress → Result Script ScriptFault) → Result Script ScriptFault

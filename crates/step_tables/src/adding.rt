@@ -153,7 +153,10 @@ impl Progress {
     {
         match said {
             Said::Sets(setting, word) => {
-                self.add_setting(*setting, number_within(least(*setting), most(*setting), word));
+                self.add_setting(
+                    *setting,
+                    number_within(least(*setting), most(*setting), word),
+                );
                 Ok(())
             }
             Said::Task(line) => self.add_task(alloc, line),

@@ -8,7 +8,9 @@ use crate::names::{any_unknown, is_named, is_unknown, unknown};
 use crate::progress::Progress;
 use crate::shapes::{Delay, EventLine, RowLine, Said, Setting, TaskLine};
 use crate::tables::{Event, Kind, TaskDef};
-use crate::values::{delay_no_number, delay_outside, no_number, outside, place_no_number, place_outside, value};
+use crate::values::{
+    delay_no_number, delay_outside, no_number, outside, place_no_number, place_outside, value,
+};
 
 /// The least that a setting may be.
 pub(crate) fn least(setting: Setting) -> u64

@@ -1,8 +1,9 @@
 //! Scripts: the tables of tasks, rows and events that a run follows, and their text.
 #![tactic(auto)]
 
-mod faults;
 mod adding;
+mod faults;
+mod first_form;
 mod judging;
 mod lists;
 mod names;

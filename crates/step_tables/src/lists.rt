@@ -124,7 +124,9 @@ impl Rows {
     pub(crate) fn new(alloc: Global) -> Rows
         ensures { result ≡ [] }
     {
-        Rows { list: Vec::new(alloc) }
+        Rows {
+            list: Vec::new(alloc),
+        }
     }
 
     /// One row more.
@@ -183,7 +185,9 @@ impl Tasks {
     pub(crate) fn new(alloc: Global) -> Tasks
         ensures { result ≡ [] }
     {
-        Tasks { list: Vec::new(alloc) }
+        Tasks {
+            list: Vec::new(alloc),
+        }
     }
 
     /// One task more.
@@ -249,7 +253,9 @@ impl Events {
     pub(crate) fn new(alloc: Global) -> Events
         ensures { result ≡ [] }
     {
-        Events { list: Vec::new(alloc) }
+        Events {
+            list: Vec::new(alloc),
+        }
     }
 
     /// One event more.

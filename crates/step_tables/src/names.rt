@@ -113,7 +113,10 @@ fn resolved(
     requires { length tasks.now ≤ 4096 }
     ensures { IfOk result (λ actions. actions.items ≡ map (λ order. action_of tasks.now (order_view order)) orders.now) }
 {
-    orders.iter().map(|order| action_of(tasks, order)).collect(alloc)
+    orders
+        .iter()
+        .map(|order| action_of(tasks, order))
+        .collect(alloc)
 }
 
 /// The actions, with their tasks' numbers.

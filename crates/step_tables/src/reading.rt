@@ -9,9 +9,9 @@ ghost use Rattle.step_tables.specs.Views.{said_view, Judges, Takes, Gives, words
 
 use crate::faults::{ScriptError, ScriptFault};
 use crate::progress::{Progress, Refusal};
-use crate::shapes::{body_line, setting_line, Said, Setting};
+use crate::shapes::{Said, Setting, body_line, setting_line};
 use crate::tables::Script;
-use crate::words::{piece_at, Words};
+use crate::words::{Words, piece_at};
 use std::alloc::{AllocError, Global};
 
 /// The most bytes that a script may have.
@@ -35,11 +35,7 @@ fn setting_at(number: u32) -> Option<Setting>
 
 /// What the line says, by its number.
 #[tactic(auto, unfolding(crate::specs::Judging::said_in))]
-fn said_in<'a>(
-    alloc: Global,
-    number: u32,
-    words: Words<'a>,
-) -> Result<Option<Said<'a>>, AllocError>
+fn said_in<'a>(alloc: Global, number: u32, words: Words<'a>) -> Result<Option<Said<'a>>, AllocError>
     requires { 1 < number }
     ensures { IfOk result (λ said. option_map said_view said ≡ said_in (setting_at number) (words_in words.entry)) }
 {
@@ -51,11 +47,7 @@ fn said_in<'a>(
 
 /// What the line says, where its words fit a shape.
 #[tactic(auto, unfolding(crate::specs::Judging::said_of))]
-fn said_of<'a>(
-    alloc: Global,
-    number: u32,
-    line: &'a [u8],
-) -> Result<Option<Said<'a>>, AllocError>
+fn said_of<'a>(alloc: Global, number: u32, line: &'a [u8]) -> Result<Option<Said<'a>>, AllocError>
     requires { 1 < number }
     ensures { IfOk result (λ said. option_map said_view said ≡ said_of number line.now) }
 {
@@ -171,4 +163,36 @@ fn long_line(limit: usize, bytes: &[u8]) -> Option<u32>
     }
     let before = bytes[..limit].iter().filter(|byte| **byte == b'\n').count();
     Some(before as u32 + 1)
+}
+
+/// The script of a text of at most so many bytes.
+#[tactic(auto, unfolding(crate::specs::Judging::script_within))]
+fn script_within(alloc: Global, limit: usize, bytes: &[u8]) -> Result<Script, ScriptError>
+    requires { length bytes.now < 2 ^ 32 - 1 }
+    ensures { Gives result (script_within limit bytes.now) }
+{
+    let long = long_line(limit, bytes);
+    let mut progress = Progress::new(alloc);
+    let mut number: u32 = 1;
+    let mut rest = bytes;
+    'lines: loop {
+        let (line, more) = piece_at(b'\n', rest);
+        let Some(more) = more else {
+            return progress.close(long, number, line);
+        };
+        progress.take_line(alloc, long, number, line)?;
+        number += 1;
+        rest = more;
+    }
+}
+
+impl Script {
+    /// The script of a text, or the line and the kind of the text's first fault (docs/SCRIPT.md).
+    #[tactic(auto, unfolding(crate::specs::Judging::script_of))]
+    pub fn read(alloc: Global, bytes: &[u8]) -> Result<Script, ScriptError>
+        ensures { Gives result (script_of bytes.now) }
+    {
+        let end = bytes.len().min(BYTE_LIMIT + 1);
+        script_within(alloc, BYTE_LIMIT, &bytes[..end])
+    }
 }
