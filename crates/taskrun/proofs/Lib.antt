@@ -11,3 +11,4 @@ pub mod EngineForm
 pub mod EngineTurns
 pub mod EngineTexts
 pub mod EngineWrites
+pub mod Answered

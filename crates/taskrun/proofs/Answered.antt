@@ -1,0 +1,61 @@
+-- The answers of the top call, from those of its parts.
+use Rattle.std.proofs.Common.{◌≡◌, ℕ, ◌+◌, ◌<◌, ◌≤◌, ◌⊎◌, inl, inr, true, false, List, [], length, take, refl, sym, ◌∙◌, ap, subst, arith, Option, Some, None, IfSome, Result, Ok, Err}
+use Rattle.sched_base.specs.Streams.{Appends, AppendsFront}
+use Rattle.step_tables.specs.declared.faults.ScriptFault.{ScriptFault}
+use Rattle.step_tables.specs.declared.tables.Script.{Script}
+use Rattle.step_tables.specs.Judging.{script_of, byte_limit}
+use Rattle.step_tables.specs.Sound.{is_first_form, is_sound}
+use Rattle.step_tables.proofs.Length.{read_length, read_cut}
+use Rattle.transcript.specs.Spelling.{text_of}
+use Rattle.taskrun.specs.declared.status.Status.{Status}
+use Rattle.taskrun.specs.declared.status.Status.TheVariants.{Done, ScriptRefused, Usage, ReadFault, WriteFault, NoMemory, NotLawful, TextRefused}
+use Rattle.taskrun.specs.Answers.{OnScript, IsRefused, Wrote, WroteFront, Answers, Expected, IsRunning}
+use Rattle.taskrun.specs.Play.{play}
+use Rattle.taskrun.proofs.Forms.{play_is_run}
+
+-- what is written is the text of a run of the script, or a first part of it
+pub wrote : (before after : Option (List ℕ)) (s : Script) → is_first_form s ≡ true → is_sound s ≡ true → Appends before after (text_of (play s)) → OnScript (Ok s) (Wrote before after)
+wrote before after s first sound h = (first, (play s, play_is_run s first sound, h))
+
+pub wrote_front : (before after : Option (List ℕ)) (s : Script) → is_first_form s ≡ true → is_sound s ≡ true → AppendsFront before after (text_of (play s)) → OnScript (Ok s) (WroteFront before after)
+wrote_front before after s first sound h = (first, (play s, play_is_run s first sound, h))
+
+-- there is a script
+script_there : (r : Result Script ScriptFault) (P : Script → Type 0) → OnScript r P → (s : Script) × (r ≡ Ok s)
+script_there (Ok s) P h = (s, refl)
+script_there (Err fault) P h = absurd h
+
+-- what an answer says of the bytes that were read it says of those that the source had
+pub answers_cut : (source : Option (List ℕ)) (read : List ℕ) (before after : Option (List ℕ)) (status : Status) → IfSome source (λ all. read ≡ take (byte_limit + 1) all) → Answers (script_of read) before after status → IfSome source (λ bytes. Answers (script_of bytes) before after status)
+answers_cut None read before after status e h = tt
+answers_cut (Some all) read before after status e h =
+    subst (λ r. Answers r before after status) (ap script_of e ∙ read_cut all) h
+
+-- where all was written, the source was read to its end
+ended_done : (read : List ℕ) (before after ended : Option (List ℕ)) → Answers (script_of read) before after Done → (length read < byte_limit + 1 → ended ≡ Some []) → ended ≡ Some []
+ended_done read before after ended h to_end =
+    let there = script_there (script_of read) (Wrote before after) h in
+    let few : length read ≤ byte_limit = read_length read there.0 there.1 in
+    to_end (omega arith)
+
+pub ended_by : (source ended : Option (List ℕ)) (read : List ℕ) (before after : Option (List ℕ)) (status : Status) → IfSome source (λ all. length read < byte_limit + 1 → ended ≡ Some []) → Answers (script_of read) before after status → IfSome source (λ all. status ≡ Done → ended ≡ Some [])
+ended_by None ended read before after status e h = tt
+ended_by (Some all) ended read before after status e h =
+    λ done. ended_done read before after ended (subst (λ x. Answers (script_of read) before after x) done h) e
+
+-- the answer that comes where no stream fails
+expected : (r : Result Script ScriptFault) (before after : Option (List ℕ)) (status : Status) → Answers r before after status → IsRunning status → (status ≡ WriteFault → ⊥) → Expected r status
+expected (Ok s) before after Done h running never = (h.0, tt)
+expected (Err f) before after Done h running never = absurd h
+expected r before after (ScriptRefused fault) h running never = h.0
+expected r before after Usage h running never = absurd running
+expected r before after ReadFault h running never = absurd running
+expected r before after WriteFault h running never = absurd (never refl)
+expected r before after NoMemory h running never = tt
+expected r before after (NotLawful line) h running never = absurd running
+expected r before after (TextRefused fault) h running never = absurd running
+
+pub expected_by : (source : Option (List ℕ)) (read : List ℕ) (before after : Option (List ℕ)) (status : Status) → IfSome source (λ all. read ≡ take (byte_limit + 1) all) → Answers (script_of read) before after status → IsRunning status → (status ≡ WriteFault → ⊥) → IfSome source (λ bytes. Expected (script_of bytes) status)
+expected_by None read before after status e h running never = tt
+expected_by (Some all) read before after status e h running never =
+    subst (λ r. Expected r status) (ap script_of e ∙ read_cut all) (expected (script_of read) before after status h running never)
