@@ -127,11 +127,11 @@ impl Engine {
         ensures world { world_of self.new ≡ ended (world_of self.old) }
         ensures room { self.new.log.room ≡ self.old.log.room }
     {
-        let reply = self.make(&Call::DropRun(TASK));
-        if is_killed(&reply) {
+        let dropped = self.make(&Call::DropRun(TASK));
+        if is_killed(&dropped) {
             self.make(&Call::Retire(TASK));
         } else {
-            self.queued = has_reasons(&reply);
+            self.queued = has_reasons(&dropped);
         }
     }
 
@@ -145,8 +145,8 @@ impl Engine {
         ensures room { self.new.log.room ≡ self.old.log.room }
     {
         self.queued = false;
-        let reply = self.make(&Call::Take(TASK));
-        if is_killed(&reply) {
+        let taken = self.make(&Call::Take(TASK));
+        if is_killed(&taken) {
             self.make(&Call::Retire(TASK));
         } else {
             self.act_all(actions);
