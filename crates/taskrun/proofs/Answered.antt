@@ -59,3 +59,7 @@ pub expected_by : (source : Option (List ℕ)) (read : List ℕ) (before after :
 expected_by None read before after status e h running never = tt
 expected_by (Some all) read before after status e h running never =
     subst (λ r. Expected r status) (ap script_of e ∙ read_cut all) (expected (script_of read) before after status h running never)
+
+-- the bytes as another slice
+pub answers_along : (x y : List ℕ) (before after : Option (List ℕ)) (status : Status) → x ≡ y → Answers (script_of x) before after status → Answers (script_of y) before after status
+answers_along x y before after status e h = subst (λ bytes. Answers (script_of bytes) before after status) e h

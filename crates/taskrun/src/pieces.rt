@@ -20,7 +20,7 @@ pub enum ReadError {
 /// Reads a source to its end, or up to `most` bytes where it has more.
 pub fn read_all<S: Source>(alloc: Global, src: &mut S, most: usize) -> Result<Vec<u8>, ReadError>
     ensures read { IfOk result (λ bytes. IfSome (S.left src.old) (λ all. bytes.items ≡ take most all)) }
-    ensures end { IfOk result (λ bytes. IfSome (S.left src.old) (λ _. vec_len bytes < most → S.left src.new ≡ Some [])) }
+    ensures end { IfOk result (λ bytes. IfSome (S.left src.old) (λ _. length bytes.items < most → S.left src.new ≡ Some [])) }
     ensures bound { IfOk result (λ bytes. vec_len bytes ≤ most) }
     ensures few { ReadsAtMost most (S.left src.old) (S.left src.new) }
     ensures fault { IfErr result (λ e. e ≡ ReadError.Fault → Rose (S.faults src.old) (S.faults src.new)) }
