@@ -1,10 +1,10 @@
 -- Numbers are read as they are written, and written as they were read.
-use Rattle.std.proofs.Common.{◌≡◌, ℕ, zero, suc, ◌+◌, ◌^◌, ◌<◌, ◌≤◌, Bool, true, false, not, ◌&&◌, cond, eqb, ltb, leb, List, [], ◌∷◌, ◌++◌, length, get_or, Option, Some, None, decimal, refl, ap, ◌∙◌, sym, arith, ⊎_elim, ◌⊎◌}
+use Rattle.std.proofs.Common.{◌≡◌, ℕ, ◌^◌, ◌<◌, ◌≤◌, Bool, true, false, ◌&&◌, cond, ltb, leb, List, length, get_or, Option, Some, None, decimal, refl, ap, ◌∙◌, sym, arith, ⊎_elim}
 use Rattle.std.specs.Str.{all_ascii_digits}
 use Rattle.std.specs.Str.Parse.{digits_value}
 use Rattle.std.proofs.lemmas.Str.Parse.{IsNumeralModel, numerals_by_value, tells_all_ascii_digits}
 use Rattle.std.proofs.lemmas.Fmt.{digits_decimal, digits_value-decimal, decimal-digits_value, decimal_nonempty, length-decimal-le, first_decimal, decimal_digit}
-use Rattle.std.proofs.lemmas.Bool.{cond-true, cond-false, and_parts, and_from, leb-true, ltb-true, lt-ltb, le-leb, le-ltb, eqb-false, ltb-false, and_cases, cases_Bool, cases_eq, ne_eqb, eq-eqb, and_left, and_right, not-true, not_from_false, cases_lt}
+use Rattle.std.proofs.lemmas.Bool.{cond-true, and_parts, and_from, leb-true, ltb-true, lt-ltb, le-leb, eqb-false, ltb-false, and_cases, cases_eq, ne_eqb, and_right, not-true, not_from_false}
 use Rattle.transcript.specs.Grammar.{plain_number, number, is_plain, has_leading_zero}
 
 -- the digits and the number that they write
@@ -26,6 +26,7 @@ no_leading_zero : (n : ℕ) → n < 2 ^ 64 → has_leading_zero (decimal n) ≡ 
 no_leading_zero n small = ⊎_elim zero_first larger (cases_eq n 0) where
   zero_first : n ≡ 0 → has_leading_zero (decimal n) ≡ false
   zero_first e = rw (e, decimal_digit 0 (omega arith)) refl
+
   larger : (n ≡ 0 → ⊥) → has_leading_zero (decimal n) ≡ false
   larger ne = and_right _ _ (ne_eqb (get_or (decimal n) 0 0) 48 (λ (same : get_or (decimal n) 0 0 ≡ 48). absurd (omega (arith, first_decimal n (omega arith) small))))
 
@@ -51,7 +52,7 @@ number_back most n w small e =
     let rest = and_parts _ _ shape.1 in
     let below : digits_value 10 w ≤ most = leb-true _ _ digits.1 in
     (sym (decimal-digits_value own w digits.0 (ltb-true _ _ shape.0) (alone w (ltb-true _ _ shape.0) (not-true _ rest.1)) (omega arith)) ∙ ap decimal value, omega arith) where
-  alone : (w : List ℕ) → 0 < length w → has_leading_zero w ≡ false → get_or w 0 0 ≡ 48 → length w ≡ 1
-  alone w some none first =
-    let few : ltb 1 (length w) ≡ false → length w ≡ 1 = λ f. omega (arith, ltb-false 1 (length w) f) in
-    ⊎_elim few (λ f. absurd (eqb-false _ _ f first)) (and_cases _ _ none)
+      alone : (w : List ℕ) → 0 < length w → has_leading_zero w ≡ false → get_or w 0 0 ≡ 48 → length w ≡ 1
+      alone w some none first =
+          let few : ltb 1 (length w) ≡ false → length w ≡ 1 = λ f. omega (arith, ltb-false 1 (length w) f) in
+          ⊎_elim few (λ f. absurd (eqb-false _ _ f first)) (and_cases _ _ none)

@@ -1,8 +1,6 @@
 -- A line of a run is read as it is written.
-use Rattle.std.proofs.Common.{◌≡◌, ℕ, ◌+◌, ◌^◌, ◌<◌, ◌≤◌, Bool, true, false, ◌&&◌, List, [], ◌∷◌, ◌++◌, Option, Some, None, codes, decimal, refl, ap, ◌∙◌, sym, arith}
+use Rattle.std.proofs.Common.{◌≡◌, ℕ, ◌^◌, ◌<◌, Bool, true, false, List, [], ◌∷◌, ◌++◌, Option, Some, codes, decimal, refl, ap, ◌∙◌, sym, arith}
 use Rattle.std.specs.List.{list_all, join_with_byte}
-use Rattle.std.proofs.lemmas.Bool.{and_from, and_parts}
-use Rattle.sched_base.specs.declared.names.TaskId.{TaskId}
 use Rattle.task_machine.specs.declared.task.Stand.{Stand}
 use Rattle.task_machine.specs.declared.task.Stand.TheVariants as stands
 use Rattle.task_machine.specs.declared.task.Seen.{Seen}
@@ -11,14 +9,13 @@ use Rattle.task_machine.specs.declared.calls.Call.{Call}
 use Rattle.task_machine.specs.declared.calls.Call.TheVariants as calls
 use Rattle.task_machine.specs.declared.calls.Reply.{Reply}
 use Rattle.task_machine.specs.declared.calls.Reply.TheVariants as replies
-use Rattle.task_machine.specs.declared.calls.Entry.{Entry}
 use Rattle.transcript.specs.declared.lines.Line.{Line}
 use Rattle.transcript.specs.declared.lines.Line.TheVariants as line
 use Rattle.transcript.specs.declared.shape.Said.{Said}
-use Rattle.transcript.specs.declared.shape.Said.TheVariants.{First, Holds}
-use Rattle.transcript.specs.HasText.{HasTextSeen, HasTextCall, HasTextLine, FitsReply, FitsCall, FitsEntry, HasTextEntry}
-use Rattle.transcript.specs.Spelling.{stand_word, pending_word, flag_word, end_word, reasons_word, hex_word, seen_words, reply_words, call_words, entry_words, line_words, first_words, spelled}
-use Rattle.transcript.specs.Grammar.{◌>>=◌, stand, flag, at_rest, pending, reasons, hex, number, small, takes_number, seen, sees, told, wake, post, get, call, caller_number, entry_line, round_line, end_line, first_line, said_by, said, task, pieces}
+use Rattle.transcript.specs.declared.shape.Said.TheVariants.{Holds}
+use Rattle.transcript.specs.HasText.{HasTextSeen, HasTextCall, HasTextLine, FitsReply, FitsCall}
+use Rattle.transcript.specs.Spelling.{stand_word, flag_word, end_word, seen_words, reply_words, call_words, line_words}
+use Rattle.transcript.specs.Grammar.{stand, flag, at_rest, number, small, takes_number, seen, said_by, said}
 use Rattle.transcript.proofs.NumbersAgain.{number_again}
 use Rattle.transcript.proofs.HexAgain.{hex_again}
 use Rattle.transcript.proofs.ReasonsAgain.{reasons_again, pending_again}

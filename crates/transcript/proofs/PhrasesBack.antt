@@ -1,5 +1,5 @@
 -- What is read of a line is written as the same bytes.
-use Rattle.std.proofs.Common.{◌≡◌, ℕ, ◌+◌, ◌^◌, ◌<◌, ◌≤◌, Bool, true, false, ◌&&◌, cond, if◌then◌else◌, List, [], ◌∷◌, ◌++◌, Option, Some, None, codes, decimal, refl, ap, ◌∙◌, sym, subst, arith, inl, inr, ⊎_elim, ◌⊎◌}
+use Rattle.std.proofs.Common.{◌≡◌, ℕ, ◌^◌, ◌<◌, Bool, true, false, if◌then◌else◌, List, [], ◌∷◌, ◌++◌, Option, Some, None, codes, decimal, refl, ap, ◌∙◌, sym, subst, arith, inl, inr, ⊎_elim, ◌⊎◌}
 use Rattle.std.specs.List.{join_with_byte, AllByRecursion}
 use Rattle.std.specs.Str.{bytes_eq}
 use Rattle.std.specs.Cmp.Lexicographic.{same_text}
@@ -7,23 +7,18 @@ use Rattle.std.proofs.lemmas.List.Splits.{join_with_byte-slice_split}
 use Rattle.std.proofs.lemmas.Bool.{cases_Bool, cond-true, cond-false}
 use Rattle.sched_base.specs.declared.names.TaskId.{TaskId}
 use Rattle.task_machine.specs.declared.task.Stand.{Stand}
-use Rattle.task_machine.specs.declared.task.Stand.TheVariants as stands
 use Rattle.task_machine.specs.declared.task.Seen.{Seen}
 use Rattle.task_machine.specs.declared.task.Seen.TheVariants as seens
 use Rattle.task_machine.specs.declared.calls.Call.{Call}
-use Rattle.task_machine.specs.declared.calls.Call.TheVariants as calls
 use Rattle.task_machine.specs.declared.calls.Reply.{Reply}
 use Rattle.task_machine.specs.declared.calls.Reply.TheVariants as replies
-use Rattle.task_machine.specs.declared.calls.Entry.{Entry}
-use Rattle.transcript.specs.declared.lines.Line.{Line}
-use Rattle.transcript.specs.declared.lines.Line.TheVariants as line
 use Rattle.transcript.specs.declared.shape.CallName.{CallName}
 use Rattle.transcript.specs.declared.shape.CallName.TheVariants as names
 use Rattle.transcript.specs.declared.shape.Said.{Said}
 use Rattle.transcript.specs.declared.shape.Said.TheVariants.{First, Holds}
-use Rattle.transcript.specs.HasText.{HasTextSeen, HasTextCall, HasTextLine, FitsReply, FitsCall, FitsEntry, HasTextEntry}
-use Rattle.transcript.specs.Spelling.{stand_word, pending_word, flag_word, end_word, reasons_word, hex_word, seen_words, reply_words, call_words, entry_words, line_words, first_words}
-use Rattle.transcript.specs.Grammar.{◌>>=◌, stand_table, flag_table, at_rest_table, call_name_table, is, one_of, stand, flag, at_rest, call_name, pending, reasons, hex, number, small, takes_number, seen, sees, told, wake, post, get, call, caller_number, entry_line, round_line, end_line, first_line, or_else, said_by, said, task, pieces}
+use Rattle.transcript.specs.HasText.{HasTextSeen, HasTextCall, HasTextLine, FitsReply, FitsCall}
+use Rattle.transcript.specs.Spelling.{stand_word, flag_word, end_word, seen_words, reply_words, call_words, line_words, first_words}
+use Rattle.transcript.specs.Grammar.{◌>>=◌, stand_table, flag_table, at_rest_table, call_name_table, is, one_of, stand, flag, at_rest, call_name, pending, reasons, hex, small, takes_number, seen, sees, wake, post, get, call, caller_number, entry_line, round_line, end_line, first_line, or_else, said_by, said, pieces}
 use Rattle.transcript.proofs.NumbersAgain.{number_back, some_same}
 use Rattle.transcript.proofs.HexAgain.{hex_back}
 use Rattle.transcript.proofs.ReasonsAgain.{reasons_back, pending_back}
@@ -181,8 +176,8 @@ caller_back (c ∷ w) k e =
     let letter : (c ∷ []) ≡ codes "c" = is_back (codes "c") (c ∷ []) p.0 p.1 in
     let b = small_back w k p.2 in
     (first letter b.0, b.1) where
-  first : {c d : ℕ} {xs ys : List ℕ} → (c ∷ []) ≡ (d ∷ []) → xs ≡ ys → (c ∷ xs) ≡ (d ∷ ys)
-  first p q = cc
+      first : {c d : ℕ} {xs ys : List ℕ} → (c ∷ []) ≡ (d ∷ []) → xs ≡ ys → (c ∷ xs) ≡ (d ∷ ys)
+      first p q = cc
 
 -- what a line says, and its words
 abbrev pub SaidBack : List (List ℕ) → Said → Type 0

@@ -1,6 +1,6 @@
 -- Words have no space and no line feed, so that a text is cut where it was joined.
-use Rattle.std.proofs.Common.{◌≡◌, ℕ, zero, suc, ◌+◌, ◌^◌, ◌/◌, ◌%◌, ◌<◌, ◌≤◌, Bool, true, false, ◌==◌, ◌&&◌, cond, eqb, ltb, leb, nat_lt, if◌then◌else◌, List, [], ◌∷◌, ◌++◌, length, get_or, codes, decimal, refl, ap, ◌∙◌, sym, arith, ⊎_elim, ◌⊎◌, append_assoc}
-use Rattle.std.specs.List.{list_all, join_with_byte, slice_split, All}
+use Rattle.std.proofs.Common.{◌≡◌, ℕ, zero, suc, ◌^◌, ◌/◌, ◌%◌, ◌<◌, Bool, true, false, ◌==◌, ltb, leb, nat_lt, List, [], ◌∷◌, ◌++◌, decimal, refl, ap, ◌∙◌, arith, append_assoc}
+use Rattle.std.specs.List.{list_all, join_with_byte, All}
 use Rattle.std.specs.Str.{all_ascii_digits}
 use Rattle.std.specs.Char.{is_ascii_digit}
 use Rattle.std.proofs.lemmas.List.Splits.{slice_split_none, slice_split_at}

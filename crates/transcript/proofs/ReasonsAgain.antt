@@ -1,10 +1,10 @@
 -- Reasons are read as they are written, and written as they were read.
-use Rattle.std.proofs.Common.{◌≡◌, ℕ, zero, suc, ◌+◌, ◌*◌, ◌/◌, ◌%◌, ◌^◌, ◌<◌, ◌≤◌, Bool, true, false, ◌==◌, not, ◌&&◌, ◌||◌, cond, eqb, ltb, if◌then◌else◌, List, [], ◌∷◌, ◌++◌, length, Option, Some, None, codes, refl, ap, ◌∙◌, sym, arith, ⊎_elim, ◌⊎◌}
-use Rattle.std.specs.List.{join_with_byte, slice_split}
+use Rattle.std.proofs.Common.{◌≡◌, ℕ, suc, ◌+◌, ◌*◌, ◌/◌, ◌%◌, ◌^◌, ◌<◌, Bool, true, false, ◌==◌, ◌||◌, List, [], ◌∷◌, length, Option, Some, None, codes, refl, ap, ◌∙◌, sym, arith, ⊎_elim}
+use Rattle.std.specs.List.{join_with_byte}
 use Rattle.std.specs.Str.{bytes_eq}
 use Rattle.std.specs.Cmp.Lexicographic.{same_text}
 use Rattle.std.proofs.lemmas.List.Splits.{length-slice_split, join_with_byte-slice_split}
-use Rattle.std.proofs.lemmas.Bool.{cond-true, cond-false, and_parts, and_from, eq-eqb, eqb-true, ne_eqb, agree_below_at, cases_Bool, cases_eq, or_cases}
+use Rattle.std.proofs.lemmas.Bool.{cond-true, cond-false, eq-eqb, eqb-true, ne_eqb, agree_below_at, cases_Bool, cases_eq, or_cases}
 use Rattle.std.proofs.lemmas.Nat.{pow_pos}
 use Rattle.std.proofs.Math.Nat.{pow-suc}
 use Rattle.transcript.proofs.NumbersAgain.{some_same}
@@ -51,21 +51,21 @@ bits_back (name ∷ names) (w ∷ ws) n e =
     let tested : Bool → Option ℕ = λ b. elim b [ true ↦ bits_in names ws >>= (λ n. Some (1 + 2 * n)) | false ↦ bits_in names (w ∷ ws) >>= (λ n. Some (2 * n)) ] in
     let power = pow-suc 2 (length names) in
     let yes : bytes_eq name w ≡ true → (w ∷ ws ≡ chosen n (name ∷ names)) × (n < 2 ^ suc (length names)) = λ t.
-          let part = scaled_back (bits_in names ws) (λ n. Some (1 + 2 * n)) n (sym (ap tested t) ∙ e) in
-          let m = part.0 in
-          let is : 1 + 2 * m ≡ n = some_same part.2 in
-          let rest = bits_back names ws m part.1 in
-          let odd : n % 2 ≡ 1 = omega arith in
-          let half : n / 2 ≡ m = omega arith in
-          (sym (cond-true (n % 2 == 1) (name ∷ chosen (n / 2) names) (chosen (n / 2) names) (eq-eqb (n % 2) 1 odd) ∙ ap (λ k. name ∷ chosen k names) half ∙ ap (λ x. x ∷ chosen m names) (same_text name w (sym t)) ∙ ap (λ x. w ∷ x) (sym rest.0)), omega (arith, is, rest.1)) in
+    let part = scaled_back (bits_in names ws) (λ n. Some (1 + 2 * n)) n (sym (ap tested t) ∙ e) in
+    let m = part.0 in
+    let is : 1 + 2 * m ≡ n = some_same part.2 in
+    let rest = bits_back names ws m part.1 in
+    let odd : n % 2 ≡ 1 = omega arith in
+    let half : n / 2 ≡ m = omega arith in
+    (sym (cond-true (n % 2 == 1) (name ∷ chosen (n / 2) names) (chosen (n / 2) names) (eq-eqb (n % 2) 1 odd) ∙ ap (λ k. name ∷ chosen k names) half ∙ ap (λ x. x ∷ chosen m names) (same_text name w (sym t)) ∙ ap (λ x. w ∷ x) (sym rest.0)), omega (arith, is, rest.1)) in
     let no : bytes_eq name w ≡ false → (w ∷ ws ≡ chosen n (name ∷ names)) × (n < 2 ^ suc (length names)) = λ t.
-          let part = scaled_back (bits_in names (w ∷ ws)) (λ n. Some (2 * n)) n (sym (ap tested t) ∙ e) in
-          let m = part.0 in
-          let is : 2 * m ≡ n = some_same part.2 in
-          let rest = bits_back names (w ∷ ws) m part.1 in
-          let even : n % 2 ≡ 0 = omega arith in
-          let half : n / 2 ≡ m = omega arith in
-          (sym (cond-false (n % 2 == 1) (name ∷ chosen (n / 2) names) (chosen (n / 2) names) (ne_eqb (n % 2) 1 (λ (o : n % 2 ≡ 1). absurd (omega arith))) ∙ ap (λ k. chosen k names) half ∙ sym rest.0), omega (arith, is, rest.1)) in
+    let part = scaled_back (bits_in names (w ∷ ws)) (λ n. Some (2 * n)) n (sym (ap tested t) ∙ e) in
+    let m = part.0 in
+    let is : 2 * m ≡ n = some_same part.2 in
+    let rest = bits_back names (w ∷ ws) m part.1 in
+    let even : n % 2 ≡ 0 = omega arith in
+    let half : n / 2 ≡ m = omega arith in
+    (sym (cond-false (n % 2 == 1) (name ∷ chosen (n / 2) names) (chosen (n / 2) names) (ne_eqb (n % 2) 1 (λ (o : n % 2 ≡ 1). absurd (omega arith))) ∙ ap (λ k. chosen k names) half ∙ sym rest.0), omega (arith, is, rest.1)) in
     ⊎_elim yes no (cases_Bool (bytes_eq name w))
 
 pub reasons_back : (w : List ℕ) (f : ℕ) → reasons w ≡ Some f → (w ≡ reasons_word f) × (0 < f) × (f < 128)
@@ -78,9 +78,9 @@ reasons_back w f e =
 pub pending_back : (w : List ℕ) (f : ℕ) → pending w ≡ Some f → (w ≡ pending_word f) × (f < 128)
 pending_back w f e =
     let minus : bytes_eq (codes "-") w ≡ true → (w ≡ pending_word f) × (f < 128) = λ t.
-          let zero_is : 0 ≡ f = some_same (sym (cond-true (bytes_eq (codes "-") w) (Some 0) (reasons w) t) ∙ e) in
-          (sym (same_text (codes "-") w (sym t)) ∙ ap pending_word zero_is, omega (arith, zero_is)) in
+    let zero_is : 0 ≡ f = some_same (sym (cond-true (bytes_eq (codes "-") w) (Some 0) (reasons w) t) ∙ e) in
+    (sym (same_text (codes "-") w (sym t)) ∙ ap pending_word zero_is, omega (arith, zero_is)) in
     let list : bytes_eq (codes "-") w ≡ false → (w ≡ pending_word f) × (f < 128) = λ t.
-          let back = reasons_back w f (sym (cond-false (bytes_eq (codes "-") w) (Some 0) (reasons w) t) ∙ e) in
-          (back.0 ∙ sym (cond-false (f == 0) (codes "-") (reasons_word f) (ne_eqb f 0 (λ (z : f ≡ 0). absurd (omega (arith, back.1))))), back.2) in
+    let back = reasons_back w f (sym (cond-false (bytes_eq (codes "-") w) (Some 0) (reasons w) t) ∙ e) in
+    (back.0 ∙ sym (cond-false (f == 0) (codes "-") (reasons_word f) (ne_eqb f 0 (λ (z : f ≡ 0). absurd (omega (arith, back.1))))), back.2) in
     ⊎_elim minus list (cases_Bool (bytes_eq (codes "-") w))

@@ -1,6 +1,6 @@
 -- The text of a run is read as its lines.
-use Rattle.std.proofs.Common.{◌≡◌, ℕ, zero, suc, ◌+◌, ◌-◌, ◌<◌, ◌≤◌, Bool, true, false, ◌==◌, cond, eqb, List, [], ◌∷◌, ◌++◌, map, length, Option, Some, None, Result, Ok, Err, refl, ap, ◌∙◌, sym, subst, arith, inl, inr, ⊎_elim, ◌⊎◌}
-use Rattle.std.specs.List.{list_all, join_with_byte, flat_map, AllByRecursion}
+use Rattle.std.proofs.Common.{◌≡◌, ℕ, ◌+◌, ◌-◌, ◌<◌, Bool, true, false, List, [], ◌∷◌, ◌++◌, map, length, Some, None, Ok, Err, refl, ap, ◌∙◌, arith}
+use Rattle.std.specs.List.{join_with_byte, flat_map, AllByRecursion}
 use Rattle.std.proofs.lemmas.Bool.{cond-true, cond-false, and_from, eq-eqb, lt-ltb}
 use Rattle.task_machine.specs.declared.calls.Entry.{Entry}
 use Rattle.run_model.specs.Run.{Round, Run}
@@ -9,13 +9,12 @@ use Rattle.transcript.specs.declared.lines.Line.TheVariants as line
 use Rattle.transcript.specs.declared.shape.Said.{Said}
 use Rattle.transcript.specs.declared.shape.Said.TheVariants.{First, Holds}
 use Rattle.transcript.specs.declared.shape.Progress.{Progress}
-use Rattle.transcript.specs.declared.faults.TextFault.{TextFault}
 use Rattle.transcript.specs.RunLines.{lines_from, lines_of_run}
 use Rattle.transcript.specs.HasText.{HasText, HasTextLine}
-use Rattle.transcript.specs.Spelling.{line_text, line_words, first_words, spelled, text_of}
-use Rattle.transcript.specs.Grammar.{pieces, said, number, plain_number, hex, reasons}
-use Rattle.transcript.specs.Judging.{lines, lines_of, judged, judged_said, may_stand, follows, past, past_line, opening, with_front, go_on, closed}
-use Rattle.transcript.proofs.Plain.{plain, pieces_spelled}
+use Rattle.transcript.specs.Spelling.{line_text, first_words, spelled, text_of}
+use Rattle.transcript.specs.Grammar.{pieces, said}
+use Rattle.transcript.specs.Judging.{lines, lines_of, judged, judged_said, may_stand, follows, past, past_line, opening, with_front, go_on}
+use Rattle.transcript.proofs.Plain.{pieces_spelled}
 use Rattle.transcript.proofs.PhrasesAgain.{first_word, more_words, words_are, first_plain, more_plain, line_again}
 use Rattle.transcript.proofs.Rooms.{read_line}
 

@@ -1,9 +1,8 @@
 -- Bytes that are read as lines are the text of a run with these lines.
-use Rattle.std.proofs.Common.{◌≡◌, ℕ, zero, suc, ◌+◌, ◌-◌, ◌<◌, ◌≤◌, Bool, true, false, true≢false, not, ◌&&◌, ◌==◌, cond, eqb, ltb, if◌then◌else◌, List, [], ◌∷◌, ◌++◌, map, length, Option, Some, None, Result, Ok, Err, refl, ap, ◌∙◌, sym, subst, arith, append_assoc, inl, inr, ⊎_elim, ◌⊎◌}
-use Rattle.std.specs.List.{join_with_byte, flat_map, AllByRecursion, slice_split}
+use Rattle.std.proofs.Common.{◌≡◌, ℕ, ◌+◌, ◌-◌, ◌<◌, Bool, true, false, true≢false, ◌==◌, if◌then◌else◌, List, [], ◌∷◌, ◌++◌, map, length, Option, Some, None, Result, Ok, Err, refl, ap, ◌∙◌, sym, subst, arith, append_assoc}
+use Rattle.std.specs.List.{join_with_byte, flat_map, AllByRecursion}
 use Rattle.std.proofs.lemmas.List.Splits.{join_with_byte-slice_split}
-use Rattle.std.proofs.lemmas.List.{nil_from_length}
-use Rattle.std.proofs.lemmas.Bool.{cond-true, cond-false, and_parts, eqb-true, ne_eqb, ltb-true, not-true, cases_Bool}
+use Rattle.std.proofs.lemmas.Bool.{cond-false, and_parts, eqb-true, ne_eqb, ltb-true, not-true}
 use Rattle.task_machine.specs.declared.calls.Entry.{Entry}
 use Rattle.run_model.specs.Run.{Round, Run}
 use Rattle.transcript.specs.declared.lines.Line.{Line}
@@ -17,7 +16,7 @@ use Rattle.transcript.specs.HasText.{HasText, HasTextLine}
 use Rattle.transcript.specs.Spelling.{line_text, line_words, first_words, spelled, text_of}
 use Rattle.transcript.specs.Grammar.{pieces, said}
 use Rattle.transcript.specs.Judging.{lines, lines_of, judged, judged_said, may_stand, follows, past, past_line, held, opening, with_front, go_on, closed, fault}
-use Rattle.transcript.proofs.PhrasesBack.{said_back, SaidBack}
+use Rattle.transcript.proofs.PhrasesBack.{said_back}
 use Rattle.transcript.proofs.TextAgain.{GoesOn, behind}
 
 same_ok : {A E : Type 0} {x y : A} → (let r : Result A E = Ok x in r) ≡ Ok y → x ≡ y
@@ -30,17 +29,18 @@ judged_back n p text s e = go p.ended refl (said text) refl e where
   stands : (t : Said) (b : Bool) → may_stand p t ≡ b → if◌then◌else◌ {A = Result Said ℕ} b (Ok t) (Err 2) ≡ Ok s → (t ≡ s) × (may_stand p s ≡ true)
   stands t true h e = let same : t ≡ s = cc in (same, subst (λ x. may_stand p x ≡ true) same h)
   stands t false h e = cc
+
   go : (b : Bool) → p.ended ≡ b → (o : Option Said) → said text ≡ o → if◌then◌else◌ {A = Result Said ℕ} b (Err 2) (judged_said p o) ≡ Ok s → (p.ended ≡ false) × (said text ≡ Some s) × (may_stand p s ≡ true)
   go true h o k e = cc
   go false h None k e = cc
   go false h (Some t) k e = let q = stands t (may_stand p t) refl e in (h, k ∙ ap Some q.0, q.1)
 
 -- lines behind a front
-front_back : (front : List Line) (r : Result (List Line) TextFault) (ls : List Line) → with_front front r ≡ Ok ls → (more : List Line) × (r ≡ Ok more) × (front ++ more ≡ ls)
+pub front_back : (front : List Line) (r : Result (List Line) TextFault) (ls : List Line) → with_front front r ≡ Ok ls → (more : List Line) × (r ≡ Ok more) × (front ++ more ≡ ls)
 front_back front (Ok more) ls e = (more, refl, cc)
 front_back front (Err f) ls e = cc
 
-go_back : (n : ℕ) (v : Result Said ℕ) (f : Said → Result (List Line) TextFault) (ls : List Line) → go_on n v f ≡ Ok ls → (s : Said) × (v ≡ Ok s) × (with_front (held s) (f s) ≡ Ok ls)
+pub go_back : (n : ℕ) (v : Result Said ℕ) (f : Said → Result (List Line) TextFault) (ls : List Line) → go_on n v f ≡ Ok ls → (s : Said) × (v ≡ Ok s) × (with_front (held s) (f s) ≡ Ok ls)
 go_back n (Ok s) f ls e = (s, refl, e)
 go_back n (Err kind) f ls e = cc
 
@@ -80,14 +80,14 @@ lines_back (text ∷ next ∷ more) n p ls begun e =
     let g = go_back n (judged None n p text) _ ls e in
     let j = judged_back n p text g.0 g.1 in
     go g.0 j g.2 (λ m q ks. lines_back (next ∷ more) m q ks) where
-  go : (s : Said) → (p.ended ≡ false) × (said text ≡ Some s) × (may_stand p s ≡ true) → with_front (held s) (lines None (n + 1) (past p s) (next ∷ more)) ≡ Ok ls → ((m : ℕ) (q : Progress) (ks : List Line) → q.begun ≡ true → lines None m q (next ∷ more) ≡ Ok ks → LinesBack q (next ∷ more) ks) → LinesBack p (text ∷ next ∷ more) ls
-  go First j f again = absurd (true≢false (sym begun ∙ not-true p.begun j.2))
-  go (Holds l) j f again =
-      let rest = front_back (l ∷ []) (lines None (n + 1) (past_line p l) (next ∷ more)) ls f in
-      let stands = and_parts p.begun (follows p.rounds l) j.2 in
-      let after = again (n + 1) (past_line p l) rest.0 (still_begun p l ∙ begun) rest.1 in
-      let said_is = said_back text (Holds l) j.1 in
-      subst (LinesBack p (text ∷ next ∷ more)) rest.2 ((j.0, begun, stands.1, after.0), (said_is.1.1, after.1), text_front text (join_with_byte 10 (next ∷ more)) l rest.0 (said_is.0 ∙ ap (join_with_byte 32) said_is.1.0) after.2)
+      go : (s : Said) → (p.ended ≡ false) × (said text ≡ Some s) × (may_stand p s ≡ true) → with_front (held s) (lines None (n + 1) (past p s) (next ∷ more)) ≡ Ok ls → ((m : ℕ) (q : Progress) (ks : List Line) → q.begun ≡ true → lines None m q (next ∷ more) ≡ Ok ks → LinesBack q (next ∷ more) ks) → LinesBack p (text ∷ next ∷ more) ls
+      go First j f again = absurd (true≢false (sym begun ∙ not-true p.begun j.2))
+      go (Holds l) j f again =
+          let rest = front_back (l ∷ []) (lines None (n + 1) (past_line p l) (next ∷ more)) ls f in
+          let stands = and_parts p.begun (follows p.rounds l) j.2 in
+          let after = again (n + 1) (past_line p l) rest.0 (still_begun p l ∙ begun) rest.1 in
+          let said_is = said_back text (Holds l) j.1 in
+          subst (LinesBack p (text ∷ next ∷ more)) rest.2 ((j.0, begun, stands.1, after.0), (said_is.1.1, after.1), text_front text (join_with_byte 10 (next ∷ more)) l rest.0 (said_is.0 ∙ ap (join_with_byte 32) said_is.1.0) after.2)
 
 -- lines that go on are entries of the round before, and then rounds and an end
 run_back : (ls : List Line) (r : ℕ) → GoesOn (behind r) ls → (es : List Entry) × (rounds : List Round) × (rest : Bool) × (ls ≡ map line.Entry es ++ lines_from r rounds rest) × (r ≡ 0 → es ≡ []) × (0 < r + length rounds)
@@ -115,12 +115,12 @@ first_back (piece ∷ []) ls e = absurd (true≢false (sym (closed_back 1 openin
 first_back (text ∷ next ∷ more) ls e =
     let g = go_back 1 (judged None 1 opening text) _ ls e in
     go g.0 (judged_back 1 opening text g.0 g.1) g.2 where
-  go : (s : Said) → (opening.ended ≡ false) × (said text ≡ Some s) × (may_stand opening s ≡ true) → with_front (held s) (lines None 2 (past opening s) (next ∷ more)) ≡ Ok ls → (x : List ℕ) × (xs : List (List ℕ)) × (text ∷ next ∷ more ≡ join_with_byte 32 first_words ∷ x ∷ xs) × LinesBack (behind 0) (x ∷ xs) ls
-  go First j f =
-      let rest = front_back [] (lines None 2 (behind 0) (next ∷ more)) ls f in
-      let said_is = said_back text First j.1 in
-      (next, more, ap (λ t. t ∷ next ∷ more) (said_is.0 ∙ ap (join_with_byte 32) said_is.1), lines_back (next ∷ more) 2 (behind 0) ls refl (rest.1 ∙ ap Ok rest.2))
-  go (Holds l) j f = absurd (true≢false (sym j.2))
+      go : (s : Said) → (opening.ended ≡ false) × (said text ≡ Some s) × (may_stand opening s ≡ true) → with_front (held s) (lines None 2 (past opening s) (next ∷ more)) ≡ Ok ls → (x : List ℕ) × (xs : List (List ℕ)) × (text ∷ next ∷ more ≡ join_with_byte 32 first_words ∷ x ∷ xs) × LinesBack (behind 0) (x ∷ xs) ls
+      go First j f =
+          let rest = front_back [] (lines None 2 (behind 0) (next ∷ more)) ls f in
+          let said_is = said_back text First j.1 in
+          (next, more, ap (λ t. t ∷ next ∷ more) (said_is.0 ∙ ap (join_with_byte 32) said_is.1), lines_back (next ∷ more) 2 (behind 0) ls refl (rest.1 ∙ ap Ok rest.2))
+      go (Holds l) j f = absurd (true≢false (sym j.2))
 
 -- bytes that are read are the text of a run
 pub text_back : (b : List ℕ) (ls : List Line) → lines_of b ≡ Ok ls → (run : Run) × HasText run × (lines_of_run run ≡ ls) × (b ≡ text_of run)
