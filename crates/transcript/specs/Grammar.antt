@@ -91,21 +91,37 @@ reasons w = bits_in reason_names (pieces 44 w)
 abbrev pub pending : List ℕ → Option ℕ
 pending w = if bytes_eq (codes "-") w then Some 0 else reasons w
 
+-- the words for where a task stands
+abbrev pub stand_table : List (List ℕ × Stand)
+stand_table = (codes "rest", stands.Rest) ∷ (codes "queued", stands.Queued) ∷ (codes "runs", stands.Runs) ∷ []
+
 -- where a task stands
 abbrev pub stand : List ℕ → Option Stand
-stand = one_of ((codes "rest", stands.Rest) ∷ (codes "queued", stands.Queued) ∷ (codes "runs", stands.Runs) ∷ [])
+stand = one_of stand_table
+
+-- the words for whether a task was killed
+abbrev pub flag_table : List (List ℕ × Bool)
+flag_table = (codes "live", false) ∷ (codes "killed", true) ∷ []
 
 -- whether a task was killed
 abbrev pub flag : List ℕ → Option Bool
-flag = one_of ((codes "live", false) ∷ (codes "killed", true) ∷ [])
+flag = one_of flag_table
+
+-- the names of the calls
+abbrev pub call_name_table : List (List ℕ × CallName)
+call_name_table = (codes "wake", names.Wake) ∷ (codes "kill", names.Kill) ∷ (codes "post", names.Post) ∷ (codes "get", names.Get) ∷ (codes "take", names.Take) ∷ (codes "drop", names.DropRun) ∷ (codes "retire", names.Retire) ∷ []
 
 -- the name of a call
 abbrev pub call_name : List ℕ → Option CallName
-call_name = one_of ((codes "wake", names.Wake) ∷ (codes "kill", names.Kill) ∷ (codes "post", names.Post) ∷ (codes "get", names.Get) ∷ (codes "take", names.Take) ∷ (codes "drop", names.DropRun) ∷ (codes "retire", names.Retire) ∷ [])
+call_name = one_of call_name_table
+
+-- the words for whether a run came to rest
+abbrev pub at_rest_table : List (List ℕ × Bool)
+at_rest_table = (codes "rest", true) ∷ (codes "limit", false) ∷ []
 
 -- whether a run came to rest
 abbrev pub at_rest : List ℕ → Option Bool
-at_rest = one_of ((codes "rest", true) ∷ (codes "limit", false) ∷ [])
+at_rest = one_of at_rest_table
 
 -- the task of a number
 abbrev pub task : ℕ → TaskId

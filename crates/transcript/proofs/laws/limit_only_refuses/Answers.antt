@@ -1,0 +1,6 @@
+-- The lemmas of proofs/Limits.antt.
+use Rattle.transcript.proofs.Limits.{short_text, limit_free}
+use Rattle.transcript.proofs.laws.limit_only_refuses.Goals as goal
+
+pub returns : goal.returns
+returns c = record { within = short_text; read = limit_free }
