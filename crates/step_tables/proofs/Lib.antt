@@ -5,6 +5,9 @@ pub mod Reasons
 pub mod Options
 pub mod Good
 pub mod Steps
+pub mod Walk
+pub mod RowsOf
+pub mod SoundParts
 pub mod LineLoop
 pub mod ListViews
 pub mod Back

@@ -1,5 +1,5 @@
 -- Which tables are a script's: docs/SCRIPT.md, "Tables".
-use Rattle.std.specs.Prelude.{ℕ, ℤ, pos, negsuc, int_lt, Bool, true, false, not, ◌&&◌, List, [], ◌∷◌, length, bytes_eq, ◌==◌, nat_lt, nat_le}
+use Rattle.std.specs.Prelude.{ℕ, ℤ, pos, negsuc, int_lt, Bool, true, false, not, ◌&&◌, List, [], ◌∷◌, length, bytes_eq, ◌==◌, nat_lt, nat_le, map}
 use Rattle.std.specs.List.{list_all, list_any}
 use Rattle.step_tables.specs.declared.tables.Action.{Action}
 use Rattle.step_tables.specs.declared.tables.Action.TheVariants.{Wake, Kill}
@@ -11,7 +11,7 @@ use Rattle.step_tables.specs.declared.tables.Row.{Row}
 use Rattle.step_tables.specs.declared.tables.TaskDef.{TaskDef}
 use Rattle.step_tables.specs.declared.tables.Event.{Event}
 use Rattle.step_tables.specs.declared.tables.Script.{Script}
-use Rattle.step_tables.specs.Words.{is_empty, is_name}
+use Rattle.step_tables.specs.Words.{Word, is_empty, is_name}
 
 -- whether n is from low to high
 abbrev pub within : ℕ → ℕ → ℕ → Bool
@@ -50,10 +50,10 @@ is_sound_kind workers (Tasklet home class) = nat_lt home workers
 abbrev pub is_sound_task : ℕ → ℕ → TaskDef → Bool
 is_sound_task workers tasks task = is_name task.name && (is_sound_kind workers task.kind && (within 1 64 (length task.rows) && list_all (is_sound_row tasks task.kind (length task.rows)) task.rows))
 
--- whether no two tasks have one name
-abbrev pub distinct_names : List TaskDef → Bool
+-- whether no two names are the same
+abbrev pub distinct_names : List Word → Bool
 distinct_names [] = true
-distinct_names (task ∷ tasks) = not (list_any (λ other. bytes_eq task.name other.name) tasks) && distinct_names tasks
+distinct_names (name ∷ names) = not (list_any (λ other. bytes_eq name other) names) && distinct_names names
 
 -- whether the events come by rising rounds, the first not before this one and each below the last
 abbrev pub rising_below : ℕ → ℕ → List Event → Bool
@@ -64,7 +64,7 @@ rising_below from rounds (event ∷ events) = nat_le from event.round && (nat_lt
 unfoldable pub is_sound : Script → Bool
 is_sound s =
     within 1 16 s.workers && (within 1 1000 s.depth && (nat_le s.start 4294967295 && (within 1 1048576 s.step && (within 1 100000 s.rounds
-    && (nat_le (length s.tasks) 4096 && (list_all (is_sound_task s.workers (length s.tasks)) s.tasks && (distinct_names s.tasks
+    && (nat_le (length s.tasks) 4096 && (list_all (is_sound_task s.workers (length s.tasks)) s.tasks && (distinct_names (map (λ task. task.name) s.tasks)
     && (nat_le (length s.events) 65536 && (list_all (λ event. is_sound_action (length s.tasks) event.action) s.events && rising_below 0 s.rounds s.events)))))))))
 
 -- whether it is 0

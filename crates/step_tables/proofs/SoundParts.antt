@@ -1,0 +1,130 @@
+-- What good lines make is in range.
+use Rattle.std.proofs.Common.{◌≡◌, ℕ, suc, zero, ◌+◌, ◌*◌, ◌^◌, ◌-◌, ◌≤◌, ◌<◌, Bool, true, false, cond, List, [], ◌∷◌, ◌++◌, map, length, refl, ap, sym, ◌∙◌, arith, inl, inr, ◌⊎◌, subst, lit<, lit≤}
+use Rattle.std.specs.Prelude.{Option, Some, None, option_map, is_some, is_none, unwrap_or, position, bytes_eq, not, ◌||◌, ◌&&◌, ◌==◌, nat_le, nat_lt, slice_get, ℤ, int_lt, negsuc, pos}
+use Rattle.std.specs.List.{list_all, list_any, position_or_len}
+use Rattle.std.proofs.lemmas.Bool.{ltb-true}
+use Rattle.std.proofs.lemmas.Bool.Decides.{nat_tests}
+use Rattle.std.proofs.lemmas.Option.{none-some, cond_some}
+use Rattle.std.proofs.lemmas.List.{length-map}
+use Rattle.sched_base.specs.declared.names.Class.{Class}
+use Rattle.step_tables.specs.declared.tables.Action.{Action}
+use Rattle.step_tables.specs.declared.tables.Kind.{Kind}
+use Rattle.step_tables.specs.declared.tables.Kind.TheVariants.{Pinned, Shared, Tasklet}
+use Rattle.step_tables.specs.declared.tables.TaskDef.{TaskDef}
+use Rattle.step_tables.specs.declared.tables.Event.{Event}
+use Rattle.step_tables.specs.declared.progress.Progress.{Progress}
+use Rattle.step_tables.specs.Words.{Word, pieces, is_empty, bits_of, reason_names, reasons_of, is_name}
+use Rattle.step_tables.specs.Shapes.{Order, wakes, kills, Delay, keeps, after, never, Place, pinned, shared, tasklet, TaskLine, RowLine, EventLine}
+use Rattle.step_tables.specs.Sound.{within, is_nice, is_sound_action, is_sound_expiry, is_sound_kind, is_sound_row, distinct_names, rising_below}
+use Rattle.step_tables.specs.Judging.{value, signed_value, outside, outside_nice, place_outside, delay_outside, named, unknown, order_name, number_named, reasons_named, action_of, expiry_of, kind_of, task_of, row_of, event_of, barred, is_timerless, is_expiry, due, promised, last_round}
+use Rattle.step_tables.proofs.Back.{IsOrder, AreOrders}
+use Rattle.step_tables.proofs.Pieces.{pieces_not_empty}
+use Rattle.step_tables.proofs.Good.{neither, GoodRow, GoodEvent, GoodTask}
+use Rattle.step_tables.proofs.RowsOf.{both, first_of_both, second_of_both, IsTaskOf}
+
+pub not_outside : (low high n : ℕ) → outside low high n ≡ false → within low high n ≡ true
+not_outside low high n e = grind (arith, nat_tests)
+
+not_outside_nice : (n : ℤ) → outside_nice n ≡ false → is_nice n ≡ true
+not_outside_nice n e = let (a, b) = neither _ _ e in both _ _ (ap not a) (ap not b)
+
+not_le : (a b : ℕ) → nat_le a b ≡ false → nat_lt b a ≡ true
+not_le a b e = grind (arith, nat_tests)
+
+twice : (m : ℕ) → 2 ^ suc m ≡ 2 * 2 ^ m
+twice m = grind arith
+
+pow_some : (m : ℕ) → 0 < 2 ^ m
+pow_some zero = lit< tt
+pow_some (suc m) = let h = twice m in let k = pow_some m in omega arith
+
+-- a reason list has a reason, and only the seven
+bits_some : (names ws : List Word) (k : ℕ) → bits_of names ws ≡ Some k → (k < 2 ^ length names) × (is_empty ws ≡ false → 0 < k)
+bits_some [] [] k e = (let z : 0 ≡ k = cc in omega arith, λ h. absurd (cc))
+bits_some [] (w ∷ ws) k e = absurd (cc)
+bits_some (n ∷ ns) [] k e = (let z : 0 ≡ k = cc in let some = pow_some (suc (length ns)) in omega arith, λ h. absurd (cc))
+bits_some (n ∷ ns) (w ∷ ws) k e = go (bytes_eq w n) (bits_of ns ws) (bits_of ns (w ∷ ws)) refl refl e (λ j h. bits_some ns ws j h) (λ j h. bits_some ns (w ∷ ws) j h)
+  where
+    go : (b : Bool) (o p : Option ℕ) → bits_of ns ws ≡ o → bits_of ns (w ∷ ws) ≡ p → cond b (option_map (λ j. 2 * j + 1) o) (option_map (λ j. 2 * j) p) ≡ Some k
+      → ((j : ℕ) → bits_of ns ws ≡ Some j → (j < 2 ^ length ns) × (is_empty ws ≡ false → 0 < j))
+      → ((j : ℕ) → bits_of ns (w ∷ ws) ≡ Some j → (j < 2 ^ length ns) × (false ≡ false → 0 < j))
+      → (k < 2 ^ suc (length ns)) × (false ≡ false → 0 < k)
+    go true None p o_is p_is h low high = absurd (cc)
+    go true (Some j) p o_is p_is h low high =
+      let k_is : 2 * j + 1 ≡ k = cc in
+      let less = (low j o_is).0 in
+      let pow = twice (length ns) in
+      (omega arith, λ t. omega arith)
+    go false o None o_is p_is h low high = absurd (cc)
+    go false o (Some j) o_is p_is h low high =
+      let k_is : 2 * j ≡ k = cc in
+      let less = (high j p_is).0 in
+      let some = (high j p_is).1 refl in
+      let pow = twice (length ns) in
+      (omega arith, λ t. omega arith)
+
+reasons_range : (list : Word) → is_some (reasons_of list) ≡ true → within 1 127 (reasons_named list) ≡ true
+unfolding reasons_named reasons_of
+reasons_range list e = go (bits_of reason_names (pieces 44 list)) refl e
+  where
+    range : (k : ℕ) → 0 < k → k < 128 → within 1 127 k ≡ true
+    range k low high = grind (arith, nat_tests)
+    go : (o : Option ℕ) → bits_of reason_names (pieces 44 list) ≡ o → is_some o ≡ true → within 1 127 (unwrap_or o 0) ≡ true
+    go None h s = absurd (cc)
+    go (Some k) h s = let (less, some) = bits_some reason_names (pieces 44 list) k h in range k (some (pieces_not_empty 44 list)) less
+
+-- a known name has a task's number
+known_number : (tasks : List TaskDef) (name : Word) → unknown tasks name ≡ false → nat_lt (number_named tasks name) (length tasks) ≡ true
+unfolding unknown number_named named
+known_number tasks name e = go (nat_lt (position_or_len (λ task. bytes_eq task.name name) tasks) (length tasks)) (position_or_len (λ task. bytes_eq task.name name) tasks) refl e
+  where
+    go : (b : Bool) (i : ℕ) → nat_lt i (length tasks) ≡ b → is_none (cond b (Some i) None) ≡ false → nat_lt (unwrap_or (cond b (Some i) None) 0) (length tasks) ≡ true
+    go true i h f = h
+    go false i h f = absurd (cc)
+
+sound_action : (tasks : List TaskDef) (order : Order) → IsOrder order → unknown tasks (order_name order) ≡ false → is_sound_action (length tasks) (action_of tasks order) ≡ true
+unfolding action_of
+sound_action tasks (wakes name list) is known = both _ _ (known_number tasks name known) (reasons_range list is.1)
+sound_action tasks (kills name) is known = known_number tasks name known
+
+sound_actions : (tasks : List TaskDef) (orders : List Order) → AreOrders orders → list_any (λ order. unknown tasks (order_name order)) orders ≡ false → list_all (is_sound_action (length tasks)) (map (action_of tasks) orders) ≡ true
+sound_actions tasks [] are known = refl
+sound_actions tasks (o ∷ os) are known = let (first, others) = neither _ _ known in both _ _ (sound_action tasks o are.0 first) (sound_actions tasks os are.1 others)
+
+sound_expiry : (kind : Kind) (delay : Delay) → (is_timerless kind && is_expiry delay) ≡ false → delay_outside delay ≡ false → is_sound_expiry kind (expiry_of delay) ≡ true
+unfolding expiry_of delay_outside
+sound_expiry kind keeps barred_ range = refl
+sound_expiry (Pinned home nice) (after w) barred_ range = not_outside 1 1073741824 (value w) range
+sound_expiry (Pinned home nice) never barred_ range = refl
+sound_expiry (Shared nice) (after w) barred_ range = absurd (cc)
+sound_expiry (Shared nice) never barred_ range = absurd (cc)
+sound_expiry (Tasklet home class) (after w) barred_ range = absurd (cc)
+sound_expiry (Tasklet home class) never barred_ range = absurd (cc)
+
+-- a good row is in range
+pub sound_row : (p : Progress) (line : RowLine) (good : GoodRow p line) → AreOrders line.orders → is_sound_row (length p.tasks) good.task.kind (promised p) (row_of p.tasks line) ≡ true
+unfolding row_of
+sound_row p line good are =
+  let few : nat_le (length (map (action_of p.tasks) line.orders)) 16 ≡ true = ap (λ n. nat_le n 16) (length-map line.orders (action_of p.tasks)) ∙ at_most _ good.few in
+  let expiry : (is_timerless good.task.kind && is_expiry line.delay) ≡ false = ap (λ d. barred d line.delay) (sym good.target.is_due) ∙ good.expiry in
+  both _ _ few (both _ _ (sound_actions p.tasks line.orders are good.known) (both _ _ (sound_expiry good.task.kind line.delay expiry good.ticks) (below _ _ good.target.next)))
+  where
+    at_most : (n : ℕ) → nat_lt 16 n ≡ false → nat_le n 16 ≡ true
+    at_most n e = grind (arith, nat_tests)
+    below : (a b : ℕ) → a < b → nat_lt a b ≡ true
+    below a b h = grind (arith, nat_tests)
+
+-- a good task line makes a task in range
+pub sound_task : (p : Progress) (line : TaskLine) → GoodTask p line → is_name line.name ≡ true → IsTaskOf p.workers (value line.rows) (task_of line)
+unfolding task_of kind_of place_outside
+sound_task p line good name = record { name = name; kind = sound_kind line.place good.place; count = not_outside 1 64 (value line.rows) good.rows }
+  where
+    sound_kind : (place : Place) → place_outside p.workers place ≡ false → is_sound_kind p.workers (kind_of place) ≡ true
+    sound_kind (pinned home nice) e = let (a, b) = neither (nat_le p.workers (value home)) (outside_nice (signed_value nice)) e in both (nat_lt (value home) p.workers) (is_nice (signed_value nice)) (not_le p.workers (value home) a) (not_outside_nice (signed_value nice) b)
+    sound_kind (shared nice) e = not_outside_nice (signed_value nice) e
+    sound_kind (tasklet home class) e = not_le p.workers (value home) e
+
+-- a good event names a task, and comes in order
+pub sound_event : (p : Progress) (line : EventLine) → GoodEvent p line → IsOrder line.order → is_sound_action (length p.tasks) (event_of p.tasks line).action ≡ true
+unfolding event_of
+sound_event p line good is = sound_action p.tasks line.order is good.known
