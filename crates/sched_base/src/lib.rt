@@ -3,6 +3,7 @@
 #![tactic(auto)]
 
 mod gates;
+mod keyed_lists;
 mod memory;
 mod names;
 mod reason_set;
@@ -10,6 +11,7 @@ mod standard;
 mod streams;
 
 pub use gates::{Gate, OpenGate};
+pub use keyed_lists::KeyedLists;
 pub use memory::{MemSink, MemSource};
 pub use names::{CallerId, Class, TaskId};
 pub use reason_set::Reasons;
