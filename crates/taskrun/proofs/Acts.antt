@@ -111,14 +111,14 @@ acts f T [] b pending killed takes queued entries ok = record {
 acts f T (Wake i reasons ∷ actions) b pending killed takes queued entries ok =
     subst (λ (j : TaskId). Acted f T (Wake j reasons ∷ actions) b takes queued (world (places.Runs worker) pending killed takes queued entries)) (sym (is_task_id i ok.0.0))
     (acts_one f T (Wake task reasons) actions b takes queued _
-    (went_asks (calls.Wake task reasons) _ _ b b
+    (went_asks (calls.Wake task reasons) _ _ b b ok.0.2
     (record { named = not_zero reasons ok.0.1; fit = refl; room = tt; reply = refl })
     (went_quiet (λ b. b) _ _ b refl refl))
     (acts f T actions b _ _ takes queued _ ok.1))
 acts f T (Kill i ∷ actions) b pending killed takes queued entries ok =
     subst (λ (j : TaskId). Acted f T (Kill j ∷ actions) b takes queued (world (places.Runs worker) pending killed takes queued entries)) (sym (is_task_id i ok.0))
     (acts_one f T (Kill task) actions b takes queued _
-    (went_asks (calls.Kill task) _ _ b b
+    (went_asks (calls.Kill task) _ _ b b tt
     (record { named = refl; fit = refl; room = tt; reply = refl })
     (went_quiet (λ b. b) _ _ b refl refl))
     (acts f T actions b _ _ takes queued _ ok.1))
@@ -167,9 +167,9 @@ pub drops : (f : Form) (T count pending : ℕ) (killed : Bool) (takes n : ℕ) (
 unfolding ended
 drops f T count pending true takes n entries few = record {
   ends = _;
-  went = went_asks (calls.DropRun task) _ _ _ _
+  went = went_asks (calls.DropRun task) _ _ _ _ tt
     (record { named = refl; fit = refl; room = tt; reply = refl })
-    (went_makes (calls.Retire task) (λ reply. dropped 0) _ _ (book count []) (retire_killed (not (pending == 0)) pending takes (made (calls.DropRun task) (world (places.Runs worker) pending true takes false entries)) refl) refl refl);
+    (went_makes (calls.Retire task) (λ reply. dropped 0) _ _ (book count []) tt (retire_killed (not (pending == 0)) pending takes (made (calls.DropRun task) (world (places.Runs worker) pending true takes false entries)) refl) refl refl);
   settled = settled_gone _ n refl refl;
   book_for = record { count = count; key = pos 0; is = refl };
 }
@@ -177,7 +177,7 @@ drops f T count pending false takes n entries few =
     let back = went_back f T (pending == 0) _ _ count refl refl in
     record {
       ends = back.0;
-      went = went_asks (calls.DropRun task) _ _ _ _ (record { named = refl; fit = refl; room = tt; reply = refl }) back.1;
+      went = went_asks (calls.DropRun task) _ _ _ _ tt (record { named = refl; fit = refl; room = tt; reply = refl }) back.1;
       settled = settled_drop (pending == 0) pending takes n _ few;
       book_for = back.2;
     }
@@ -203,9 +203,9 @@ pub runs : (f : Form) (T count pending : ℕ) (killed : Bool) (takes n : ℕ) (q
 unfolding ran
 runs f T count pending true takes n queued entries ok few room = record {
   ends = _;
-  went = went_asks (calls.Take task) _ _ _ _
+  went = went_asks (calls.Take task) _ _ _ _ tt
     (record { named = refl; fit = refl; room = omega arith; reply = refl })
-    (went_makes (calls.Retire task) (λ reply. dropped 0) _ _ (book count []) (record { named = refl; fit = refl; room = tt; reply = refl }) refl refl);
+    (went_makes (calls.Retire task) (λ reply. dropped 0) _ _ (book count []) tt (record { named = refl; fit = refl; room = tt; reply = refl }) refl refl);
   settled = settled_gone _ (n + 1) refl refl;
   book_for = record { count = count; key = pos 0; is = refl };
 }
@@ -215,7 +215,7 @@ runs f T count pending false takes n queued entries ok few room =
     let out = rows_end f T count (takes + 1) (n + 1) w acted (omega arith) in
     record {
       ends = out.ends;
-      went = went_asks (calls.Take task) _ _ _ _ (record { named = refl; fit = refl; room = omega arith; reply = refl })
+      went = went_asks (calls.Take task) _ _ _ _ tt (record { named = refl; fit = refl; room = omega arith; reply = refl })
         (went_queue _ _ _ _ false (went_from (λ b. RunsRow (script_of_form f) worker T 0 (row_of (script_of_form f) 0 b)) w _ (book count []) _ out.went));
       settled = out.settled;
       book_for = out.book_for;

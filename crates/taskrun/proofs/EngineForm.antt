@@ -45,7 +45,8 @@ action_is : (a : Action) → is_sound_action 1 a ≡ true → IsAction a
 action_is (Wake i reasons) h =
     let p = both _ _ h in
     let low = leb-true 1 reasons (both _ _ p.1).0 in
-    (let e : i.0 < 1 = ltb-true i.0 1 p.0 in omega arith, λ none. absurd (omega arith))
+    let high = leb-true reasons 127 (both _ _ p.1).1 in
+    (let e : i.0 < 1 = ltb-true i.0 1 p.0 in omega arith, λ none. absurd (omega arith), omega arith)
 action_is (Kill i) h = let e : i.0 < 1 = ltb-true i.0 1 h in omega arith
 
 actions_are : (actions : List Action) → list_all (is_sound_action 1) actions ≡ true → AllByRecursion IsAction actions

@@ -11,4 +11,6 @@ pub mod EngineForm
 pub mod EngineTurns
 pub mod EngineTexts
 pub mod EngineWrites
+pub mod Texts
+pub mod PlayTexts
 pub mod Answered

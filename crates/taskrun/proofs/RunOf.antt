@@ -18,7 +18,7 @@ use Rattle.run_model.specs.Lawful.{RoundOf, Goes, LawfulRun, Turns, Injects}
 use Rattle.taskrun.specs.Play.{worker, task, World, turned, is_quiet, cleared, rounds_from, rests_from, opened, play}
 use Rattle.taskrun.specs.Stands.{at, one, Stands, IsAction, Phase, rests, waits, boxed, is_over, place_in, queued_in, Settled}
 use Rattle.taskrun.specs.Headline.{history_of, is_init, IsRunOf}
-use Rattle.taskrun.proofs.Went.{Went, legal_more}
+use Rattle.taskrun.proofs.Went.{Went, IsMine, legal_more}
 use Rattle.taskrun.proofs.Acts.{Form, script_of_form, world, book, waiting, BookFor, Outcome}
 use Rattle.taskrun.proofs.TurnOf.{turn, before, settled_is}
 
@@ -27,20 +27,20 @@ abbrev pub standing : State → Book → List ℕ → Standing
 standing state b hosts = record { state = state; books = b ∷ []; shared = no_run; hosts = hosts }
 
 -- the entries of the worker alone
-mine_0 : (es : List Entry) → AllByRecursion (λ e. e.caller.0 ≡ 0) es → calls_of 0 es ≡ es
+mine_0 : (es : List Entry) → AllByRecursion IsMine es → calls_of 0 es ≡ es
 mine_0 [] p = refl
 mine_0 (e ∷ es) p =
-    subst (λ n. (if n == 0 then e ∷ calls_of 0 es else calls_of 0 es) ≡ e ∷ es) (sym p.0) (ap (λ xs. e ∷ xs) (mine_0 es p.1))
+    subst (λ n. (if n == 0 then e ∷ calls_of 0 es else calls_of 0 es) ≡ e ∷ es) (sym p.0.0) (ap (λ xs. e ∷ xs) (mine_0 es p.1))
 
-mine_1 : (es : List Entry) → AllByRecursion (λ e. e.caller.0 ≡ 0) es → calls_of 1 es ≡ []
+mine_1 : (es : List Entry) → AllByRecursion IsMine es → calls_of 1 es ≡ []
 mine_1 [] p = refl
 mine_1 (e ∷ es) p =
-    subst (λ n. (if n == 1 then e ∷ calls_of 1 es else calls_of 1 es) ≡ []) (sym p.0) (mine_1 es p.1)
+    subst (λ n. (if n == 1 then e ∷ calls_of 1 es else calls_of 1 es) ≡ []) (sym p.0.0) (mine_1 es p.1)
 
-mine_callers : (es : List Entry) → AllByRecursion (λ e. e.caller.0 ≡ 0) es → list_all (λ e. nat_le e.caller.0 1) es ≡ true
+mine_callers : (es : List Entry) → AllByRecursion IsMine es → list_all (λ e. nat_le e.caller.0 1) es ≡ true
 mine_callers [] p = refl
 mine_callers (e ∷ es) p =
-    subst (λ n. nat_le n 1 && list_all (λ e. nat_le e.caller.0 1) es ≡ true) (sym p.0) (mine_callers es p.1)
+    subst (λ n. nat_le n 1 && list_all (λ e. nat_le e.caller.0 1) es ≡ true) (sym p.0.0) (mine_callers es p.1)
 
 -- nothing is dealt where nothing is shared
 abbrev pub dealt_by : ℕ → ℕ → Standing → Standing
@@ -68,6 +68,7 @@ pub record Rounded (f : Form) (r T n : ℕ) (w : World) (b : Book) (hosts : List
   pub round : RoundOf (script_of_form f) r T (dealt (script_of_form f) (standing w.state b hosts)) (record { tick = T; entries = (turned (script_of_form f) w).entries }) (standing (turned (script_of_form f) w).state ends hosts)
   pub legal : Legal w.state (turned (script_of_form f) w).entries
   pub leads : (turned (script_of_form f) w).state ≡ led w.state (turned (script_of_form f) w).entries
+  pub mine : AllByRecursion IsMine (turned (script_of_form f) w).entries
   pub settled : Settled (turned (script_of_form f) w) (n + 1)
   pub book_for : BookFor ends (turned (script_of_form f) w).queued
 
@@ -108,6 +109,7 @@ rounded f r T n w b hosts h ok room st for clear =
         (round_by f.depth f.start f.step f.rounds s.tasks r T w v b out.ends hosts clear out.went);
       legal = subst (λ xs. Legal w.state xs) same out.went.legal;
       leads = out.went.leads ∙ ap (λ xs. led w.state xs) same;
+      mine = subst (λ xs. AllByRecursion IsMine xs) same out.went.mine;
       settled = out.settled;
       book_for = out.book_for;
     }
@@ -148,7 +150,7 @@ goes (suc n) r f T k w b hosts h ok left some room st for clear =
     (new, out.round, subst (λ x. MatchBool x ((more ≡ []) × (rest ≡ true)) (MatchBool (r + 1 == f.rounds) ((more ≡ []) × (rest ≡ false)) (Goes s rest (r + 1) (next_tick s T) new more))) (sym (at_rest_is f r v out.ends hosts v.queued out.book_for)) next)
 
 -- the opening of a run
-settled_opening : (f : Form) (init : Bool) → Settled (opened (script_of_form (record f { init = init }))) 0
+pub settled_opening : (f : Form) (init : Bool) → Settled (opened (script_of_form (record f { init = init }))) 0
 settled_opening f true = record { phase = boxed; stands = record { pending = 1; killed = false; takes = 0; alone = refl; few = omega arith }; queued = refl }
 settled_opening f false = record { phase = rests; stands = record { pending = 0; killed = false; takes = 0; alone = refl; few = omega arith }; queued = refl }
 

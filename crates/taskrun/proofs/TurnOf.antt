@@ -84,7 +84,7 @@ gets f T phase pending killed takes entries b =
     let w = before phase pending killed takes entries in
     let c = queued_all (script_of_form f) (members 0 (replied (calls.Get 0) w)) b in
     went_then w (collected w) (collected w) b c c
-    (went_makes (calls.Get 0) (λ reply. queued_all (script_of_form f) (members 0 reply)) w (collected w) b (allowed_get phase pending killed takes entries) refl refl)
+    (went_makes (calls.Get 0) (λ reply. queued_all (script_of_form f) (members 0 reply)) w (collected w) b tt (allowed_get phase pending killed takes entries) refl refl)
     (went_quiet (λ b. b) (collected w) (collected w) c refl refl)
 
 -- no timer fires

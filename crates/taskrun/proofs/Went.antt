@@ -1,8 +1,9 @@
 -- Calls that the worker made are a lawful part of its turn, and a legal history: one lemma for each way in which
 -- parts are put together.
-use Rattle.std.proofs.Common.{◌≡◌, ℕ, ◌==◌, Bool, true, false, if◌then◌else◌, List, [], ◌∷◌, ◌++◌, refl, sym, ◌∙◌, ap, subst, append_assoc, append-nil, MatchBool}
+use Rattle.std.proofs.Common.{◌≡◌, ℕ, ◌<◌, ◌==◌, Bool, true, false, if◌then◌else◌, List, [], ◌∷◌, ◌++◌, refl, sym, ◌∙◌, ap, subst, append_assoc, append-nil, MatchBool}
 use Rattle.std.specs.List.{AllByRecursion}
 use Rattle.task_machine.specs.declared.calls.Call.{Call}
+use Rattle.task_machine.specs.declared.calls.Call.TheVariants as calls
 use Rattle.task_machine.specs.declared.calls.Reply.{Reply}
 use Rattle.task_machine.specs.declared.calls.Entry.{Entry}
 use Rattle.task_machine.specs.Step.{State, Allowed, after, reply_of}
@@ -15,6 +16,20 @@ use Rattle.taskrun.specs.Play.{worker, World, made, replied}
 abbrev pub entry_of : Call → World → Entry
 entry_of c w = record { caller = worker; call = c; reply = replied c w }
 
+-- the reasons of a wake are out of the seven
+abbrev pub SmallCall : Call → Type 0
+SmallCall (calls.Wake i reasons) = reasons < 128
+SmallCall (calls.Kill i) = Unit {0}
+SmallCall (calls.Post i b) = Unit {0}
+SmallCall (calls.Get g) = Unit {0}
+SmallCall (calls.Take i) = Unit {0}
+SmallCall (calls.DropRun i) = Unit {0}
+SmallCall (calls.Retire i) = Unit {0}
+
+-- an entry of the worker
+abbrev pub IsMine : Entry → Type 0
+IsMine e = (e.caller.0 ≡ 0) × SmallCall e.call
+
 -- from world w and book b, the worker's next entries are this part, lead to world v, and the book is then c
 pub record Went (P : Part Book) (w : World) (b : Book) (v : World) (c : Book) : Type 0 where
   pub entries : List Entry
@@ -22,7 +37,7 @@ pub record Went (P : Part Book) (w : World) (b : Book) (v : World) (c : Book) : 
   pub lawful : P b entries c
   pub legal : Legal w.state entries
   pub leads : v.state ≡ led w.state entries
-  pub mine : AllByRecursion (λ e. e.caller.0 ≡ 0) entries
+  pub mine : AllByRecursion IsMine entries
 
 -- laws of histories that follow one another
 pub legal_more : (s : State) (xs ys : List Entry) → Legal s xs → Legal (led s xs) ys → Legal s (xs ++ ys)
@@ -33,7 +48,7 @@ pub led_more : (s : State) (xs ys : List Entry) → led s (xs ++ ys) ≡ led (le
 led_more s [] ys = refl
 led_more s (x ∷ xs) ys = led_more (stepped s x) xs ys
 
-all_more : (xs ys : List Entry) → AllByRecursion (λ e. e.caller.0 ≡ 0) xs → AllByRecursion (λ e. e.caller.0 ≡ 0) ys → AllByRecursion (λ e. e.caller.0 ≡ 0) (xs ++ ys)
+all_more : (xs ys : List Entry) → AllByRecursion IsMine xs → AllByRecursion IsMine ys → AllByRecursion IsMine (xs ++ ys)
 all_more [] ys p q = q
 all_more (x ∷ xs) ys p q = (p.0, all_more xs ys p.1 q)
 
@@ -60,20 +75,20 @@ went_quiet f w v b same_state same_entries = record {
 }
 
 -- a call, and then what its reply asks for
-pub went_asks : {P : Reply → Part Book} (call : Call) (w v : World) (b c : Book) → Allowed w.state (entry_of call w) → Went (P (replied call w)) (made call w) b v c → Went (Asks worker call P) w b v c
-went_asks call w v b c ok p = record {
+pub went_asks : {P : Reply → Part Book} (call : Call) (w v : World) (b c : Book) → SmallCall call → Allowed w.state (entry_of call w) → Went (P (replied call w)) (made call w) b v c → Went (Asks worker call P) w b v c
+went_asks call w v b c small ok p = record {
   entries = entry_of call w ∷ p.entries;
   appended = p.appended ∙ append_assoc w.entries (entry_of call w ∷ []) p.entries;
   lawful = record { reply = replied call w; rest = p.entries; begins = refl; goes_on = p.lawful };
   legal = (ok, p.legal);
   leads = p.leads;
-  mine = (refl, p.mine);
+  mine = ((refl, small), p.mine);
 }
 
 -- a call whose reply changes the book
-pub went_makes : (call : Call) (f : Reply → Book → Book) (w v : World) (b : Book) → Allowed w.state (entry_of call w) → v.state ≡ (made call w).state → v.entries ≡ (made call w).entries → Went (Makes worker call f) w b v (f (replied call w) b)
-went_makes call f w v b ok same_state same_entries =
-    went_asks call w v b (f (replied call w) b) ok (went_quiet (f (replied call w)) (made call w) v b same_state same_entries)
+pub went_makes : (call : Call) (f : Reply → Book → Book) (w v : World) (b : Book) → SmallCall call → Allowed w.state (entry_of call w) → v.state ≡ (made call w).state → v.entries ≡ (made call w).entries → Went (Makes worker call f) w b v (f (replied call w) b)
+went_makes call f w v b small ok same_state same_entries =
+    went_asks call w v b (f (replied call w) b) small ok (went_quiet (f (replied call w)) (made call w) v b same_state same_entries)
 
 -- the one part where the test holds, the other where not
 pub went_either : {P Q : Part Book} (t : Bool) (w v : World) (b c : Book) → (t ≡ true → Went P w b v c) → (t ≡ false → Went Q w b v c) → Went (Either t P Q) w b v c

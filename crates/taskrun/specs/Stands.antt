@@ -1,5 +1,5 @@
 -- Where the one task stands between the worker's calls (docs/MODEL.md, "The first engine").
-use Rattle.std.specs.Prelude.{◌≡◌, ◌≢◌, ℕ, ◌≤◌, Bool, true, false, List, [], ◌∷◌}
+use Rattle.std.specs.Prelude.{◌≡◌, ◌≢◌, ℕ, ◌<◌, ◌≤◌, Bool, true, false, List, [], ◌∷◌}
 use Rattle.task_machine.specs.declared.task.Place.{Place}
 use Rattle.task_machine.specs.declared.task.Place.TheVariants as places
 use Rattle.task_machine.specs.declared.task.TaskState.{TaskState}
@@ -24,9 +24,9 @@ pub record Stands (s : State) (p : Place) (n : ℕ) : Type 0 where
   pub alone : s ≡ one (at p pending killed takes)
   pub few : takes ≤ n
 
--- the action names the one task, and a wake has a reason
+-- the action names the one task, and a wake has reasons, out of the seven
 abbrev pub IsAction : Action → Type 0
-IsAction (Wake i reasons) = (i.0 ≡ 0) × (reasons ≢ 0)
+IsAction (Wake i reasons) = (i.0 ≡ 0) × (reasons ≢ 0) × (reasons < 128)
 IsAction (Kill i) = i.0 ≡ 0
 
 -- where the task is between two turns: at rest, in the run queue, in its box, or gone
