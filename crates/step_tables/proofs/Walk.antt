@@ -43,6 +43,11 @@ pub record OneLine (long : Option ℕ) (n : ℕ) (p : Progress) (line : List ℕ
   pub is : IsTaken long n line p after
   pub others : judged long (n + 1) after lines ≡ Ok s
 
+-- no line at all is an open piece too
+pub nil_back : (long : Option ℕ) (n : ℕ) (p : Progress) (s : Script) → judged long n p [] ≡ Ok s → IsClosed p [] s
+unfolding judged
+nil_back long n p s e = closed_back long n p [] s e
+
 -- the last line is the open piece, and each other line is taken
 pub last_back : (long : Option ℕ) (n : ℕ) (p : Progress) (line : List ℕ) (s : Script) → judged long n p (line ∷ []) ≡ Ok s → IsClosed p line s
 unfolding judged
