@@ -1,12 +1,12 @@
 -- What is read of words is what the words say: from a shape back to its words.
-use Rattle.std.proofs.Common.{◌≡◌, ℕ, suc, zero, ◌+◌, ◌≤◌, ◌<◌, Bool, true, false, List, [], ◌∷◌, ◌++◌, length, refl, ap, sym, ◌∙◌, arith, inl, inr, ◌⊎◌, subst, append_assoc, append-nil}
+use Rattle.std.proofs.Common.{◌≡◌, ℕ, suc, zero, Bool, true, false, List, [], ◌∷◌, ◌++◌, length, refl, ap, sym, ◌∙◌, inl, inr, subst, append_assoc, append-nil}
 use Rattle.std.specs.Prelude.{Option, Some, None, codes, bytes_eq, is_some, unwrap_or, flat_map}
 use Rattle.std.proofs.lemmas.Option.{none-some}
 use Rattle.std.proofs.lemmas.Slice.Eq.{bytes_eq-Decides}
 use Rattle.sched_base.specs.declared.names.Class.{Class}
 use Rattle.sched_base.specs.declared.names.Class.TheVariants.{Urgent, Normal, Bulk, Heavy}
 use Rattle.step_tables.specs.declared.shapes.Setting.{Setting}
-use Rattle.step_tables.specs.Words.{Word, ◌>>=◌, ◌or_else◌, only_if, is_empty, is_name, reasons_of, class_of}
+use Rattle.step_tables.specs.Words.{Word, ◌or_else◌, only_if, is_name, reasons_of, class_of}
 use Rattle.step_tables.specs.Shapes.{Order, wakes, kills, Delay, keeps, after, never, Place, pinned, shared, tasklet, TaskLine, RowLine, EventLine, Said, sets, task, row, event, ends, word_at, past, word_past, name_at, at_end, init_at, pinned_at, shared_at, tasklet_at, task_place_at, task_end, task_line, tasklet_line, wake_at, kill_at, order_at, and_more, orders_at, after_at, never_at, delay_at, closing, row_start, row_line, event_line, setting_name, setting_line, task_said, tasklet_said, row_said, event_said, end_said, body_line}
 use Rattle.step_tables.specs.Text.{class_name, order_words, delay_words, init_words, place_words, task_word, said_words}
 use Rattle.step_tables.proofs.Options.{bind_some, only_some, or_some, some_same}
@@ -81,12 +81,15 @@ end_back (w ∷ ws) x y e = absurd (none-some y e)
 class_back : (w : Word) (c : Class) → class_of w ≡ Some c → w ≡ class_name c
 unfolding class_of
 class_back w c e = elim (or_some (only_if (bytes_eq w (codes "urgent")) Urgent) _ c e) [
-    inl h ↦ named Urgent h
+  | inl h ↦ named Urgent h
   | inr h ↦ (elim (or_some (only_if (bytes_eq w (codes "normal")) Normal) _ c h) [
-      inl h2 ↦ named Normal h2
+    | inl h2 ↦ named Normal h2
     | inr h2 ↦ (elim (or_some (only_if (bytes_eq w (codes "bulk")) Bulk) _ c h2) [
-        inl h3 ↦ named Bulk h3
-      | inr h3 ↦ named Heavy h3 ]) ]) ]
+      | inl h3 ↦ named Bulk h3
+      | inr h3 ↦ named Heavy h3
+    ])
+  ])
+]
   where
     named : (d : Class) → only_if (bytes_eq w (class_name d)) d ≡ Some c → w ≡ class_name c
     named d e = let (same, is) = only_some _ d c e in bytes_same w (class_name d) same ∙ ap class_name is
@@ -95,39 +98,39 @@ init_back : (ws : List Word) (b : Bool) → init_at ws ≡ Some b → ws ≡ ini
 unfolding init_at
 init_back [] b e = ap init_words (some_same false b e)
 init_back (w ∷ ws) b e =
-  let (rest, found, is) = bind_some (only_if (bytes_eq w (codes "init")) ws) _ b e in
-  let (same, rest_is) = only_some _ ws rest found in
-  let (none, is_true) = end_back rest true b is in
-  (λ i. bytes_same w (codes "init") same i ∷ (rest_is ∙ none) i) ∙ ap init_words is_true
+    let (rest, found, is) = bind_some (only_if (bytes_eq w (codes "init")) ws) _ b e in
+    let (same, rest_is) = only_some _ ws rest found in
+    let (none, is_true) = end_back rest true b is in
+    (λ i. bytes_same w (codes "init") same i ∷ (rest_is ∙ none) i) ∙ ap init_words is_true
 
 pinned_back : (ws : List Word) (x : Place × List Word) → pinned_at ws ≡ Some x → (task_word x.0 ≡ codes "task") × (ws ≡ place_words x.0 ++ x.1)
 unfolding pinned_at
 pinned_back ws x e =
-  let (home, found, is) = bind_some (word_past (codes "home") ws) _ x e in
-  let (nice, found_2, is_2) = bind_some (word_past (codes "nice") home.1) _ x is in
-  let all : ws ≡ codes "home" ∷ home.0 ∷ codes "nice" ∷ nice.0 ∷ nice.1 = word_past_back _ ws home found ∙ ap (λ r. codes "home" ∷ home.0 ∷ r) (word_past_back _ home.1 nice found_2) in
-  let P : Place × List Word → Type 0 = λ y. (task_word y.0 ≡ codes "task") × (ws ≡ place_words y.0 ++ y.1) in
-  subst P (some_same (pinned home.0 nice.0, nice.1) x is_2) (refl, all)
+    let (home, found, is) = bind_some (word_past (codes "home") ws) _ x e in
+    let (nice, found_2, is_2) = bind_some (word_past (codes "nice") home.1) _ x is in
+    let all : ws ≡ codes "home" ∷ home.0 ∷ codes "nice" ∷ nice.0 ∷ nice.1 = word_past_back _ ws home found ∙ ap (λ r. codes "home" ∷ home.0 ∷ r) (word_past_back _ home.1 nice found_2) in
+    let P : Place × List Word → Type 0 = λ y. (task_word y.0 ≡ codes "task") × (ws ≡ place_words y.0 ++ y.1) in
+    subst P (some_same (pinned home.0 nice.0, nice.1) x is_2) (refl, all)
 
 shared_back : (ws : List Word) (x : Place × List Word) → shared_at ws ≡ Some x → (task_word x.0 ≡ codes "task") × (ws ≡ place_words x.0 ++ x.1)
 unfolding shared_at
 shared_back ws x e =
-  let (rest, found, is) = bind_some (past (codes "shared") ws) _ x e in
-  let (nice, found_2, is_2) = bind_some (word_past (codes "nice") rest) _ x is in
-  let all : ws ≡ codes "shared" ∷ codes "nice" ∷ nice.0 ∷ nice.1 = past_back _ ws rest found ∙ ap (λ r. codes "shared" ∷ r) (word_past_back _ rest nice found_2) in
-  let P : Place × List Word → Type 0 = λ y. (task_word y.0 ≡ codes "task") × (ws ≡ place_words y.0 ++ y.1) in
-  subst P (some_same (shared nice.0, nice.1) x is_2) (refl, all)
+    let (rest, found, is) = bind_some (past (codes "shared") ws) _ x e in
+    let (nice, found_2, is_2) = bind_some (word_past (codes "nice") rest) _ x is in
+    let all : ws ≡ codes "shared" ∷ codes "nice" ∷ nice.0 ∷ nice.1 = past_back _ ws rest found ∙ ap (λ r. codes "shared" ∷ r) (word_past_back _ rest nice found_2) in
+    let P : Place × List Word → Type 0 = λ y. (task_word y.0 ≡ codes "task") × (ws ≡ place_words y.0 ++ y.1) in
+    subst P (some_same (shared nice.0, nice.1) x is_2) (refl, all)
 
 tasklet_back : (ws : List Word) (x : Place × List Word) → tasklet_at ws ≡ Some x → (task_word x.0 ≡ codes "tasklet") × (ws ≡ place_words x.0 ++ x.1)
 unfolding tasklet_at
 tasklet_back ws x e =
-  let (home, found, is) = bind_some (word_past (codes "home") ws) _ x e in
-  let (class, found_2, is_2) = bind_some (word_past (codes "class") home.1) _ x is in
-  let (c, found_3, is_3) = bind_some (class_of class.0) _ x is_2 in
-  let all : ws ≡ codes "home" ∷ home.0 ∷ codes "class" ∷ class_name c ∷ class.1 =
+    let (home, found, is) = bind_some (word_past (codes "home") ws) _ x e in
+    let (class, found_2, is_2) = bind_some (word_past (codes "class") home.1) _ x is in
+    let (c, found_3, is_3) = bind_some (class_of class.0) _ x is_2 in
+    let all : ws ≡ codes "home" ∷ home.0 ∷ codes "class" ∷ class_name c ∷ class.1 =
     word_past_back _ ws home found ∙ ap (λ r. codes "home" ∷ home.0 ∷ r) (word_past_back _ home.1 class found_2 ∙ ap (λ w. codes "class" ∷ w ∷ class.1) (class_back class.0 c found_3)) in
-  let P : Place × List Word → Type 0 = λ y. (task_word y.0 ≡ codes "tasklet") × (ws ≡ place_words y.0 ++ y.1) in
-  subst P (some_same (tasklet home.0 c, class.1) x is_3) (refl, all)
+    let P : Place × List Word → Type 0 = λ y. (task_word y.0 ≡ codes "tasklet") × (ws ≡ place_words y.0 ++ y.1) in
+    subst P (some_same (tasklet home.0 c, class.1) x is_3) (refl, all)
 
 task_place_back : (ws : List Word) (x : Place × List Word) → task_place_at ws ≡ Some x → (task_word x.0 ≡ codes "task") × (ws ≡ place_words x.0 ++ x.1)
 unfolding task_place_at
@@ -136,10 +139,10 @@ task_place_back ws x e = elim (or_some (pinned_at ws) (shared_at ws) x e) [ inl 
 task_end_back : (ws : List Word) (x : Word × Bool) → task_end ws ≡ Some x → ws ≡ codes "rows" ∷ x.0 ∷ init_words x.1
 unfolding task_end
 task_end_back ws x e =
-  let (rows, found, is) = bind_some (word_past (codes "rows") ws) _ x e in
-  let (init, found_2, is_2) = bind_some (init_at rows.1) _ x is in
-  word_past_back _ ws rows found ∙ ap (λ r. codes "rows" ∷ rows.0 ∷ r) (init_back rows.1 init found_2)
-  ∙ ap (λ y. codes "rows" ∷ y.0 ∷ init_words y.1) (some_same (rows.0, init) x is_2)
+    let (rows, found, is) = bind_some (word_past (codes "rows") ws) _ x e in
+    let (init, found_2, is_2) = bind_some (init_at rows.1) _ x is in
+    word_past_back _ ws rows found ∙ ap (λ r. codes "rows" ∷ rows.0 ∷ r) (init_back rows.1 init found_2)
+    ∙ ap (λ y. codes "rows" ∷ y.0 ∷ init_words y.1) (some_same (rows.0, init) x is_2)
 
 -- what stands behind the first word of a task's line
 abbrev task_rest : TaskLine → List Word
@@ -148,26 +151,26 @@ task_rest line = line.name ∷ (place_words line.place ++ codes "rows" ∷ line.
 task_back : (ws : List Word) (line : TaskLine) → task_line ws ≡ Some line → (is_name line.name ≡ true) × (task_word line.place ≡ codes "task") × (ws ≡ task_rest line)
 unfolding task_line
 task_back ws line e =
-  let (name, found, is) = bind_some (name_at ws) _ line e in
-  let (place, found_2, is_2) = bind_some (task_place_at name.1) _ line is in
-  let (end, found_3, is_3) = bind_some (task_end place.1) _ line is_2 in
-  let (named, ws_is) = name_back ws name found in
-  let (word_is, place_is) = task_place_back name.1 place found_2 in
-  let all = ws_is ∙ ap (λ r. name.0 ∷ r) (place_is ∙ ap (λ r. place_words place.0 ++ r) (task_end_back place.1 end found_3)) in
-  let P : TaskLine → Type 0 = λ l. (is_name l.name ≡ true) × (task_word l.place ≡ codes "task") × (ws ≡ task_rest l) in
-  subst P (some_same _ line is_3) (named, word_is, all)
+    let (name, found, is) = bind_some (name_at ws) _ line e in
+    let (place, found_2, is_2) = bind_some (task_place_at name.1) _ line is in
+    let (end, found_3, is_3) = bind_some (task_end place.1) _ line is_2 in
+    let (named, ws_is) = name_back ws name found in
+    let (word_is, place_is) = task_place_back name.1 place found_2 in
+    let all = ws_is ∙ ap (λ r. name.0 ∷ r) (place_is ∙ ap (λ r. place_words place.0 ++ r) (task_end_back place.1 end found_3)) in
+    let P : TaskLine → Type 0 = λ l. (is_name l.name ≡ true) × (task_word l.place ≡ codes "task") × (ws ≡ task_rest l) in
+    subst P (some_same _ line is_3) (named, word_is, all)
 
 tasklet_line_back : (ws : List Word) (line : TaskLine) → tasklet_line ws ≡ Some line → (is_name line.name ≡ true) × (task_word line.place ≡ codes "tasklet") × (ws ≡ task_rest line)
 unfolding tasklet_line
 tasklet_line_back ws line e =
-  let (name, found, is) = bind_some (name_at ws) _ line e in
-  let (place, found_2, is_2) = bind_some (tasklet_at name.1) _ line is in
-  let (end, found_3, is_3) = bind_some (task_end place.1) _ line is_2 in
-  let (named, ws_is) = name_back ws name found in
-  let (word_is, place_is) = tasklet_back name.1 place found_2 in
-  let all = ws_is ∙ ap (λ r. name.0 ∷ r) (place_is ∙ ap (λ r. place_words place.0 ++ r) (task_end_back place.1 end found_3)) in
-  let P : TaskLine → Type 0 = λ l. (is_name l.name ≡ true) × (task_word l.place ≡ codes "tasklet") × (ws ≡ task_rest l) in
-  subst P (some_same _ line is_3) (named, word_is, all)
+    let (name, found, is) = bind_some (name_at ws) _ line e in
+    let (place, found_2, is_2) = bind_some (tasklet_at name.1) _ line is in
+    let (end, found_3, is_3) = bind_some (task_end place.1) _ line is_2 in
+    let (named, ws_is) = name_back ws name found in
+    let (word_is, place_is) = tasklet_back name.1 place found_2 in
+    let all = ws_is ∙ ap (λ r. name.0 ∷ r) (place_is ∙ ap (λ r. place_words place.0 ++ r) (task_end_back place.1 end found_3)) in
+    let P : TaskLine → Type 0 = λ l. (is_name l.name ≡ true) × (task_word l.place ≡ codes "tasklet") × (ws ≡ task_rest l) in
+    subst P (some_same _ line is_3) (named, word_is, all)
 
 -- actions that a line can have
 abbrev pub AreOrders : List Order → Type 0
@@ -180,12 +183,12 @@ orders_back zero ws = (tt, refl)
 orders_back (suc most) ws = go (λ rest. orders_back most rest) (order_at ws) refl
   where
     go : ((rest : List Word) → AreOrders (orders_at most rest).0 × (rest ≡ flat_map order_words (orders_at most rest).0 ++ (orders_at most rest).1))
-      → (o : Option (Order × List Word)) → order_at ws ≡ o → AreOrders (and_more ws o (orders_at most)).0 × (ws ≡ flat_map order_words (and_more ws o (orders_at most)).0 ++ (and_more ws o (orders_at most)).1)
+        → (o : Option (Order × List Word)) → order_at ws ≡ o → AreOrders (and_more ws o (orders_at most)).0 × (ws ≡ flat_map order_words (and_more ws o (orders_at most)).0 ++ (and_more ws o (orders_at most)).1)
     go before None e = (tt, refl)
     go before (Some x) e =
-      let (is_order, ws_is) = order_back ws x e in
-      let (are, rest_is) = before x.1 in
-      ((is_order, are), ws_is ∙ ap (λ r. order_words x.0 ++ r) rest_is ∙ sym (append_assoc (order_words x.0) (flat_map order_words (orders_at most x.1).0) (orders_at most x.1).1))
+        let (is_order, ws_is) = order_back ws x e in
+        let (are, rest_is) = before x.1 in
+        ((is_order, are), ws_is ∙ ap (λ r. order_words x.0 ++ r) rest_is ∙ sym (append_assoc (order_words x.0) (flat_map order_words (orders_at most x.1).0) (orders_at most x.1).1))
 
 delay_back : (ws : List Word) → ws ≡ delay_words (delay_at ws).0 ++ (delay_at ws).1
 unfolding delay_at after_at never_at
@@ -193,21 +196,21 @@ delay_back ws = go (after_at ws) (never_at ws) refl refl
   where
     go : (o p : Option (Delay × List Word)) → after_at ws ≡ o → never_at ws ≡ p → ws ≡ delay_words (unwrap_or (o or_else p) (keeps, ws)).0 ++ (unwrap_or (o or_else p) (keeps, ws)).1
     go (Some x) p e f =
-      let (ticks, found, is) = bind_some (word_past (codes "after") ws) _ x e in
-      word_past_back _ ws ticks found ∙ ap (λ y. delay_words y.0 ++ y.1) (some_same (after ticks.0, ticks.1) x is)
+        let (ticks, found, is) = bind_some (word_past (codes "after") ws) _ x e in
+        word_past_back _ ws ticks found ∙ ap (λ y. delay_words y.0 ++ y.1) (some_same (after ticks.0, ticks.1) x is)
     go None (Some x) e f =
-      let (rest, found, is) = bind_some (past (codes "never") ws) _ x f in
-      past_back _ ws rest found ∙ ap (λ y. delay_words y.0 ++ y.1) (some_same (never, rest) x is)
+        let (rest, found, is) = bind_some (past (codes "never") ws) _ x f in
+        past_back _ ws rest found ∙ ap (λ y. delay_words y.0 ++ y.1) (some_same (never, rest) x is)
     go None None e f = refl
 
 closing_back : (ws : List Word) (x : Delay × Word) → closing ws ≡ Some x → ws ≡ delay_words x.0 ++ codes "next" ∷ x.1 ∷ []
 unfolding closing
 closing_back ws x e =
-  let (next, found, is) = bind_some (word_past (codes "next") (delay_at ws).1) _ x e in
-  let (none, same) = end_back next.1 ((delay_at ws).0, next.0) x is in
-  delay_back ws
-  ∙ ap (λ r. delay_words (delay_at ws).0 ++ r) (word_past_back _ (delay_at ws).1 next found ∙ ap (λ r. codes "next" ∷ next.0 ∷ r) none)
-  ∙ ap (λ y. delay_words y.0 ++ codes "next" ∷ y.1 ∷ []) same
+    let (next, found, is) = bind_some (word_past (codes "next") (delay_at ws).1) _ x e in
+    let (none, same) = end_back next.1 ((delay_at ws).0, next.0) x is in
+    delay_back ws
+    ∙ ap (λ r. delay_words (delay_at ws).0 ++ r) (word_past_back _ (delay_at ws).1 next found ∙ ap (λ r. codes "next" ∷ next.0 ∷ r) none)
+    ∙ ap (λ y. delay_words y.0 ++ codes "next" ∷ y.1 ∷ []) same
 
 abbrev row_rest : RowLine → List Word
 row_rest line = line.name ∷ line.number ∷ (flat_map order_words line.orders ++ (delay_words line.delay ++ codes "next" ∷ line.next ∷ []))
@@ -215,29 +218,29 @@ row_rest line = line.name ∷ line.number ∷ (flat_map order_words line.orders 
 row_back : (ws : List Word) (line : RowLine) → row_line ws ≡ Some line → (is_name line.name ≡ true) × AreOrders line.orders × (ws ≡ row_rest line)
 unfolding row_line row_start
 row_back ws line e =
-  let (start, found, is) = bind_some (row_start ws) _ line e in
-  let (name, found_2, is_2) = bind_some (name_at ws) _ start found in
-  let (number, found_3, is_3) = bind_some (word_at name.1) _ start is_2 in
-  let same = some_same (name.0, number.0, number.1) start is_3 in
-  let (named, ws_is) = name_back ws name found_2 in
-  let P : Word × Word × List Word → Type 0 = λ y. (is_name y.0 ≡ true) × (ws ≡ y.0 ∷ y.1 ∷ y.2) in
-  let (start_named, start_is) = subst P same (named, ws_is ∙ ap (λ r. name.0 ∷ r) (word_back name.1 number found_3)) in
-  let (close, found_4, is_4) = bind_some (closing (orders_at (length start.2) start.2).1) _ line is in
-  let (are, orders_are) = orders_back (length start.2) start.2 in
-  let all = start_is ∙ ap (λ r. start.0 ∷ start.1 ∷ r) (orders_are ∙ ap (λ r. flat_map order_words (orders_at (length start.2) start.2).0 ++ r) (closing_back _ close found_4)) in
-  let Q : RowLine → Type 0 = λ l. (is_name l.name ≡ true) × AreOrders l.orders × (ws ≡ row_rest l) in
-  subst Q (some_same _ line is_4) (start_named, are, all)
+    let (start, found, is) = bind_some (row_start ws) _ line e in
+    let (name, found_2, is_2) = bind_some (name_at ws) _ start found in
+    let (number, found_3, is_3) = bind_some (word_at name.1) _ start is_2 in
+    let same = some_same (name.0, number.0, number.1) start is_3 in
+    let (named, ws_is) = name_back ws name found_2 in
+    let P : Word × Word × List Word → Type 0 = λ y. (is_name y.0 ≡ true) × (ws ≡ y.0 ∷ y.1 ∷ y.2) in
+    let (start_named, start_is) = subst P same (named, ws_is ∙ ap (λ r. name.0 ∷ r) (word_back name.1 number found_3)) in
+    let (close, found_4, is_4) = bind_some (closing (orders_at (length start.2) start.2).1) _ line is in
+    let (are, orders_are) = orders_back (length start.2) start.2 in
+    let all = start_is ∙ ap (λ r. start.0 ∷ start.1 ∷ r) (orders_are ∙ ap (λ r. flat_map order_words (orders_at (length start.2) start.2).0 ++ r) (closing_back _ close found_4)) in
+    let Q : RowLine → Type 0 = λ l. (is_name l.name ≡ true) × AreOrders l.orders × (ws ≡ row_rest l) in
+    subst Q (some_same _ line is_4) (start_named, are, all)
 
 event_back : (ws : List Word) (line : EventLine) → event_line ws ≡ Some line → IsOrder line.order × (ws ≡ line.round ∷ order_words line.order)
 unfolding event_line
 event_back ws line e =
-  let (round, found, is) = bind_some (word_at ws) _ line e in
-  let (order, found_2, is_2) = bind_some (order_at round.1) _ line is in
-  let (none, same) = end_back order.1 _ line is_2 in
-  let (is_order, order_is) = order_back round.1 order found_2 in
-  let all = word_back ws round found ∙ ap (λ r. round.0 ∷ r) (order_is ∙ ap (λ r. order_words order.0 ++ r) none ∙ append-nil (order_words order.0)) in
-  let P : EventLine → Type 0 = λ l. IsOrder l.order × (ws ≡ l.round ∷ order_words l.order) in
-  subst P same (is_order, all)
+    let (round, found, is) = bind_some (word_at ws) _ line e in
+    let (order, found_2, is_2) = bind_some (order_at round.1) _ line is in
+    let (none, same) = end_back order.1 _ line is_2 in
+    let (is_order, order_is) = order_back round.1 order found_2 in
+    let all = word_back ws round found ∙ ap (λ r. round.0 ∷ r) (order_is ∙ ap (λ r. order_words order.0 ++ r) none ∙ append-nil (order_words order.0)) in
+    let P : EventLine → Type 0 = λ l. IsOrder l.order × (ws ≡ l.round ∷ order_words l.order) in
+    subst P same (is_order, all)
 
 -- what a line after the settings can say
 abbrev pub IsBody : Said → Type 0
@@ -251,28 +254,32 @@ IsBody ends = Unit {0}
 pub body_back : (ws : List Word) (x : Said) → body_line ws ≡ Some x → IsBody x × (ws ≡ said_words x)
 unfolding body_line task_said tasklet_said row_said event_said end_said
 body_back ws x e = elim (or_some (task_said ws) _ x e) [
-    inl h ↦ (let (rest, found, is) = bind_some (past (codes "task") ws) _ x h in
+  | inl h ↦ (let (rest, found, is) = bind_some (past (codes "task") ws) _ x h in
       let (line, found_2, is_2) = bind_some (task_line rest) _ x is in
       let (named, word_is, rest_is) = task_back rest line found_2 in
       subst P (some_same _ x is_2) (named, past_back _ ws rest found ∙ (λ i. sym word_is i ∷ rest_is i)))
   | inr e2 ↦ (elim (or_some (tasklet_said ws) _ x e2) [
-    inl h ↦ (let (rest, found, is) = bind_some (past (codes "tasklet") ws) _ x h in
-      let (line, found_2, is_2) = bind_some (tasklet_line rest) _ x is in
-      let (named, word_is, rest_is) = tasklet_line_back rest line found_2 in
-      subst P (some_same _ x is_2) (named, past_back _ ws rest found ∙ (λ i. sym word_is i ∷ rest_is i)))
-  | inr e3 ↦ (elim (or_some (row_said ws) _ x e3) [
-    inl h ↦ (let (rest, found, is) = bind_some (past (codes "row") ws) _ x h in
-      let (line, found_2, is_2) = bind_some (row_line rest) _ x is in
-      let (named, are, rest_is) = row_back rest line found_2 in
-      subst P (some_same _ x is_2) ((named, are), past_back _ ws rest found ∙ ap (λ r. codes "row" ∷ r) rest_is))
-  | inr e4 ↦ (elim (or_some (event_said ws) _ x e4) [
-    inl h ↦ (let (rest, found, is) = bind_some (past (codes "event") ws) _ x h in
-      let (line, found_2, is_2) = bind_some (event_line rest) _ x is in
-      let (is_order, rest_is) = event_back rest line found_2 in
-      subst P (some_same _ x is_2) (is_order, past_back _ ws rest found ∙ ap (λ r. codes "event" ∷ r) rest_is))
-  | inr h ↦ (let (rest, found, is) = bind_some (past (codes "end") ws) _ x h in
-      let (none, same) = end_back rest ends x is in
-      subst P same (tt, past_back _ ws rest found ∙ ap (λ r. codes "end" ∷ r) none)) ]) ]) ]) ]
+    | inl h ↦ (let (rest, found, is) = bind_some (past (codes "tasklet") ws) _ x h in
+        let (line, found_2, is_2) = bind_some (tasklet_line rest) _ x is in
+        let (named, word_is, rest_is) = tasklet_line_back rest line found_2 in
+        subst P (some_same _ x is_2) (named, past_back _ ws rest found ∙ (λ i. sym word_is i ∷ rest_is i)))
+    | inr e3 ↦ (elim (or_some (row_said ws) _ x e3) [
+      | inl h ↦ (let (rest, found, is) = bind_some (past (codes "row") ws) _ x h in
+          let (line, found_2, is_2) = bind_some (row_line rest) _ x is in
+          let (named, are, rest_is) = row_back rest line found_2 in
+          subst P (some_same _ x is_2) ((named, are), past_back _ ws rest found ∙ ap (λ r. codes "row" ∷ r) rest_is))
+      | inr e4 ↦ (elim (or_some (event_said ws) _ x e4) [
+        | inl h ↦ (let (rest, found, is) = bind_some (past (codes "event") ws) _ x h in
+            let (line, found_2, is_2) = bind_some (event_line rest) _ x is in
+            let (is_order, rest_is) = event_back rest line found_2 in
+            subst P (some_same _ x is_2) (is_order, past_back _ ws rest found ∙ ap (λ r. codes "event" ∷ r) rest_is))
+        | inr h ↦ (let (rest, found, is) = bind_some (past (codes "end") ws) _ x h in
+            let (none, same) = end_back rest ends x is in
+            subst P same (tt, past_back _ ws rest found ∙ ap (λ r. codes "end" ∷ r) none))
+      ])
+    ])
+  ])
+]
   where
     P : Said → Type 0
     P y = IsBody y × (ws ≡ said_words y)
@@ -281,6 +288,6 @@ body_back ws x e = elim (or_some (task_said ws) _ x e) [
 pub setting_back : (setting : Setting) (ws : List Word) (x : Said) → setting_line setting ws ≡ Some x → (w : Word) × (x ≡ sets setting w) × (ws ≡ said_words x)
 unfolding setting_line
 setting_back setting ws x e =
-  let (found, is, same) = bind_some (word_past (setting_name setting) ws) _ x e in
-  let (none, is_x) = end_back found.1 (sets setting found.0) x same in
-  (found.0, sym is_x, word_past_back _ ws found is ∙ ap (λ r. setting_name setting ∷ found.0 ∷ r) none ∙ ap said_words is_x)
+    let (found, is, same) = bind_some (word_past (setting_name setting) ws) _ x e in
+    let (none, is_x) = end_back found.1 (sets setting found.0) x same in
+    (found.0, sym is_x, word_past_back _ ws found is ∙ ap (λ r. setting_name setting ∷ found.0 ∷ r) none ∙ ap said_words is_x)

@@ -8,6 +8,9 @@ pub mod Steps
 pub mod Walk
 pub mod RowsOf
 pub mod SoundParts
+pub mod Valid
+pub mod Head
+pub mod RangeLaws
 pub mod LineLoop
 pub mod ListViews
 pub mod Back

@@ -1,6 +1,6 @@
 -- The tasks of a script while their rows come.
-use Rattle.std.proofs.Common.{◌≡◌, ℕ, suc, zero, ◌+◌, ◌-◌, ◌≤◌, ◌<◌, Bool, true, false, cond, List, [], ◌∷◌, ◌++◌, length, get_or, set, refl, ap, sym, ◌∙◌, arith, inl, inr, ◌⊎◌, subst, add-one, length-append}
-use Rattle.std.specs.Prelude.{Option, Some, None, ◌==◌, ◌&&◌, nat_le, nat_lt, slice_get, slice_index, if◌then◌else◌}
+use Rattle.std.proofs.Common.{◌≡◌, ℕ, suc, zero, ◌+◌, ◌≤◌, ◌<◌, Bool, true, false, List, [], ◌∷◌, ◌++◌, length, set, refl, ap, sym, ◌∙◌, arith, inl, inr, subst, length-append}
+use Rattle.std.specs.Prelude.{Some, ◌==◌, ◌&&◌, slice_get, slice_index, if◌then◌else◌}
 use Rattle.std.specs.List.{list_all}
 use Rattle.std.proofs.lemmas.Bool.Decides.{nat_tests}
 use Rattle.std.proofs.lemmas.List.Folds.{list_all-append}
@@ -63,9 +63,9 @@ filled_from_fresh workers n [] [] f = tt
 filled_from_fresh workers n [] (c ∷ cs) f = f
 filled_from_fresh workers n (t ∷ ts) [] f = f
 filled_from_fresh workers n (t ∷ ts) (c ∷ cs) f =
-  let some : 1 ≤ c = within_some c f.0.count in
-  let none : length t.rows ≡ 0 = ap length f.1 in
-  (f.0, ap (list_all (is_sound_row n t.kind c)) f.1, omega arith, f.2)
+    let some : 1 ≤ c = within_some c f.0.count in
+    let none : length t.rows ≡ 0 = ap length f.1 in
+    (f.0, ap (list_all (is_sound_row n t.kind c)) f.1, omega arith, f.2)
 
 -- while the first task has no row, no task has one
 pub fresh_from_filled : (workers n : ℕ) (ts : List TaskDef) (cs : List ℕ) → Filled workers n 0 ts cs → rows_made (slice_get ts 0) ≡ 0 → Fresh workers ts cs
@@ -101,28 +101,29 @@ test_no a b e h = grind (arith, nat_tests)
 
 -- one row more
 pub filled_more : (workers n at : ℕ) (ts : List TaskDef) (cs : List ℕ) (t : TaskDef) (row : Row) (next : ℕ)
-  → Filled workers n at ts cs → slice_get ts at ≡ Some t → is_sound_row n t.kind (slice_index cs at) row ≡ true
-  → next ≡ (if length t.rows + 1 == slice_index cs at then at + 1 else at)
-  → Filled workers n next (set ts at (with_row_at_end t row)) cs
+    → Filled workers n at ts cs → slice_get ts at ≡ Some t → is_sound_row n t.kind (slice_index cs at) row ≡ true
+    → next ≡ (if length t.rows + 1 == slice_index cs at then at + 1 else at)
+    → Filled workers n next (set ts at (with_row_at_end t row)) cs
 filled_more workers n zero [] cs t row next f e is next_is = absurd (cc)
 filled_more workers n zero (u ∷ ts) [] t row next f e is next_is = absurd f
 filled_more workers n zero (u ∷ ts) (c ∷ cs) t row next f e is next_is =
-  let same : u ≡ t = cc in
-  let task_is : IsTaskOf workers c t = subst (λ v. IsTaskOf workers c v) same f.0 in
-  let sound : SoundRows n c t = subst (λ v. SoundRows n c v) same f.1 in
-  let less : length t.rows < c = subst (λ v. length v.rows < c) same f.2 in
-  let long : length (with_row_at_end t row).rows ≡ length t.rows + 1 = length_more t row in
-  elim (chose (length t.rows + 1 == c) 1 0 next (sym next_is)) [
-    inl h ↦ subst (λ k. Filled workers n k (with_row_at_end t row ∷ ts) (c ∷ cs)) h.1
-      (task_more workers c t row task_is, rows_more n c t row sound is, long ∙ test_yes _ _ h.0, filled_from_fresh workers n ts cs f.3)
-  | inr h ↦ subst (λ k. Filled workers n k (with_row_at_end t row ∷ ts) (c ∷ cs)) h.1
-      (task_more workers c t row task_is, rows_more n c t row sound is, (let other = test_no (length t.rows + 1) c h.0 in omega arith), f.3) ]
+    let same : u ≡ t = cc in
+    let task_is : IsTaskOf workers c t = subst (λ v. IsTaskOf workers c v) same f.0 in
+    let sound : SoundRows n c t = subst (λ v. SoundRows n c v) same f.1 in
+    let less : length t.rows < c = subst (λ v. length v.rows < c) same f.2 in
+    let long : length (with_row_at_end t row).rows ≡ length t.rows + 1 = length_more t row in
+    elim (chose (length t.rows + 1 == c) 1 0 next (sym next_is)) [
+      | inl h ↦ subst (λ k. Filled workers n k (with_row_at_end t row ∷ ts) (c ∷ cs)) h.1
+          (task_more workers c t row task_is, rows_more n c t row sound is, long ∙ test_yes _ _ h.0, filled_from_fresh workers n ts cs f.3)
+      | inr h ↦ subst (λ k. Filled workers n k (with_row_at_end t row ∷ ts) (c ∷ cs)) h.1
+          (task_more workers c t row task_is, rows_more n c t row sound is, (let other = test_no (length t.rows + 1) c h.0 in omega arith), f.3)
+    ]
 filled_more workers n (suc at) [] cs t row next f e is next_is = absurd f
 filled_more workers n (suc at) (u ∷ ts) [] t row next f e is next_is = absurd f
 filled_more workers n (suc at) (u ∷ ts) (c ∷ cs) t row next f e is next_is =
-  let before : ℕ = if length t.rows + 1 == slice_index cs at then at + 1 else at in
-  let behind : next ≡ suc before = next_is ∙ shifted (length t.rows + 1 == slice_index cs at) at in
-  subst (λ k. Filled workers n k (u ∷ set ts at (with_row_at_end t row)) (c ∷ cs)) (sym behind)
+    let before : ℕ = if length t.rows + 1 == slice_index cs at then at + 1 else at in
+    let behind : next ≡ suc before = next_is ∙ shifted (length t.rows + 1 == slice_index cs at) at in
+    subst (λ k. Filled workers n k (u ∷ set ts at (with_row_at_end t row)) (c ∷ cs)) (sym behind)
     (f.0, f.1, f.2, filled_more workers n at ts cs t row before f.3 e is refl)
   where
     shifted : (b : Bool) (m : ℕ) → (if b then suc m + 1 else suc m) ≡ suc (if b then m + 1 else m)
@@ -136,8 +137,8 @@ all_filled workers n zero (t ∷ ts) cs f e = absurd (omega arith)
 all_filled workers n (suc at) [] cs f e = absurd f
 all_filled workers n (suc at) (t ∷ ts) [] f e = absurd f
 all_filled workers n (suc at) (t ∷ ts) (c ∷ cs) f e =
-  both _ _
+    both _ _
     (both _ _ f.0.name (both _ _ f.0.kind (both _ _
-      (ap (within 1 64) f.2 ∙ f.0.count)
-      (ap (λ k. list_all (is_sound_row n t.kind k) t.rows) f.2 ∙ f.1))))
+    (ap (within 1 64) f.2 ∙ f.0.count)
+    (ap (λ k. list_all (is_sound_row n t.kind k) t.rows) f.2 ∙ f.1))))
     (all_filled workers n at ts cs f.3 (omega arith))

@@ -1,26 +1,21 @@
 -- What good lines make is in range.
-use Rattle.std.proofs.Common.{◌≡◌, ℕ, suc, zero, ◌+◌, ◌*◌, ◌^◌, ◌-◌, ◌≤◌, ◌<◌, Bool, true, false, cond, List, [], ◌∷◌, ◌++◌, map, length, refl, ap, sym, ◌∙◌, arith, inl, inr, ◌⊎◌, subst, lit<, lit≤}
-use Rattle.std.specs.Prelude.{Option, Some, None, option_map, is_some, is_none, unwrap_or, position, bytes_eq, not, ◌||◌, ◌&&◌, ◌==◌, nat_le, nat_lt, slice_get, ℤ, int_lt, negsuc, pos}
+use Rattle.std.proofs.Common.{◌≡◌, ℕ, suc, zero, ◌+◌, ◌*◌, ◌^◌, ◌<◌, Bool, true, false, cond, List, [], ◌∷◌, map, length, refl, ap, sym, ◌∙◌, arith, lit<}
+use Rattle.std.specs.Prelude.{Option, Some, None, option_map, is_some, is_none, unwrap_or, bytes_eq, not, ◌&&◌, nat_le, nat_lt, ℤ}
 use Rattle.std.specs.List.{list_all, list_any, position_or_len}
-use Rattle.std.proofs.lemmas.Bool.{ltb-true}
 use Rattle.std.proofs.lemmas.Bool.Decides.{nat_tests}
-use Rattle.std.proofs.lemmas.Option.{none-some, cond_some}
 use Rattle.std.proofs.lemmas.List.{length-map}
-use Rattle.sched_base.specs.declared.names.Class.{Class}
-use Rattle.step_tables.specs.declared.tables.Action.{Action}
 use Rattle.step_tables.specs.declared.tables.Kind.{Kind}
 use Rattle.step_tables.specs.declared.tables.Kind.TheVariants.{Pinned, Shared, Tasklet}
 use Rattle.step_tables.specs.declared.tables.TaskDef.{TaskDef}
-use Rattle.step_tables.specs.declared.tables.Event.{Event}
 use Rattle.step_tables.specs.declared.progress.Progress.{Progress}
 use Rattle.step_tables.specs.Words.{Word, pieces, is_empty, bits_of, reason_names, reasons_of, is_name}
 use Rattle.step_tables.specs.Shapes.{Order, wakes, kills, Delay, keeps, after, never, Place, pinned, shared, tasklet, TaskLine, RowLine, EventLine}
-use Rattle.step_tables.specs.Sound.{within, is_nice, is_sound_action, is_sound_expiry, is_sound_kind, is_sound_row, distinct_names, rising_below}
-use Rattle.step_tables.specs.Judging.{value, signed_value, outside, outside_nice, place_outside, delay_outside, named, unknown, order_name, number_named, reasons_named, action_of, expiry_of, kind_of, task_of, row_of, event_of, barred, is_timerless, is_expiry, due, promised, last_round}
+use Rattle.step_tables.specs.Sound.{within, is_nice, is_sound_action, is_sound_expiry, is_sound_kind, is_sound_row}
+use Rattle.step_tables.specs.Judging.{value, signed_value, outside, outside_nice, place_outside, delay_outside, named, unknown, order_name, number_named, reasons_named, action_of, expiry_of, kind_of, task_of, row_of, event_of, barred, is_timerless, is_expiry, promised}
 use Rattle.step_tables.proofs.Back.{IsOrder, AreOrders}
 use Rattle.step_tables.proofs.Pieces.{pieces_not_empty}
 use Rattle.step_tables.proofs.Good.{neither, GoodRow, GoodEvent, GoodTask}
-use Rattle.step_tables.proofs.RowsOf.{both, first_of_both, second_of_both, IsTaskOf}
+use Rattle.step_tables.proofs.RowsOf.{both, IsTaskOf}
 
 pub not_outside : (low high n : ℕ) → outside low high n ≡ false → within low high n ≡ true
 not_outside low high n e = grind (arith, nat_tests)
@@ -46,22 +41,22 @@ bits_some (n ∷ ns) [] k e = (let z : 0 ≡ k = cc in let some = pow_some (suc 
 bits_some (n ∷ ns) (w ∷ ws) k e = go (bytes_eq w n) (bits_of ns ws) (bits_of ns (w ∷ ws)) refl refl e (λ j h. bits_some ns ws j h) (λ j h. bits_some ns (w ∷ ws) j h)
   where
     go : (b : Bool) (o p : Option ℕ) → bits_of ns ws ≡ o → bits_of ns (w ∷ ws) ≡ p → cond b (option_map (λ j. 2 * j + 1) o) (option_map (λ j. 2 * j) p) ≡ Some k
-      → ((j : ℕ) → bits_of ns ws ≡ Some j → (j < 2 ^ length ns) × (is_empty ws ≡ false → 0 < j))
-      → ((j : ℕ) → bits_of ns (w ∷ ws) ≡ Some j → (j < 2 ^ length ns) × (false ≡ false → 0 < j))
-      → (k < 2 ^ suc (length ns)) × (false ≡ false → 0 < k)
+        → ((j : ℕ) → bits_of ns ws ≡ Some j → (j < 2 ^ length ns) × (is_empty ws ≡ false → 0 < j))
+        → ((j : ℕ) → bits_of ns (w ∷ ws) ≡ Some j → (j < 2 ^ length ns) × (false ≡ false → 0 < j))
+        → (k < 2 ^ suc (length ns)) × (false ≡ false → 0 < k)
     go true None p o_is p_is h low high = absurd (cc)
     go true (Some j) p o_is p_is h low high =
-      let k_is : 2 * j + 1 ≡ k = cc in
-      let less = (low j o_is).0 in
-      let pow = twice (length ns) in
-      (omega arith, λ t. omega arith)
+        let k_is : 2 * j + 1 ≡ k = cc in
+        let less = (low j o_is).0 in
+        let pow = twice (length ns) in
+        (omega arith, λ t. omega arith)
     go false o None o_is p_is h low high = absurd (cc)
     go false o (Some j) o_is p_is h low high =
-      let k_is : 2 * j ≡ k = cc in
-      let less = (high j p_is).0 in
-      let some = (high j p_is).1 refl in
-      let pow = twice (length ns) in
-      (omega arith, λ t. omega arith)
+        let k_is : 2 * j ≡ k = cc in
+        let less = (high j p_is).0 in
+        let some = (high j p_is).1 refl in
+        let pow = twice (length ns) in
+        (omega arith, λ t. omega arith)
 
 reasons_range : (list : Word) → is_some (reasons_of list) ≡ true → within 1 127 (reasons_named list) ≡ true
 unfolding reasons_named reasons_of
@@ -69,6 +64,7 @@ reasons_range list e = go (bits_of reason_names (pieces 44 list)) refl e
   where
     range : (k : ℕ) → 0 < k → k < 128 → within 1 127 k ≡ true
     range k low high = grind (arith, nat_tests)
+
     go : (o : Option ℕ) → bits_of reason_names (pieces 44 list) ≡ o → is_some o ≡ true → within 1 127 (unwrap_or o 0) ≡ true
     go None h s = absurd (cc)
     go (Some k) h s = let (less, some) = bits_some reason_names (pieces 44 list) k h in range k (some (pieces_not_empty 44 list)) less
@@ -105,12 +101,13 @@ sound_expiry (Tasklet home class) never barred_ range = absurd (cc)
 pub sound_row : (p : Progress) (line : RowLine) (good : GoodRow p line) → AreOrders line.orders → is_sound_row (length p.tasks) good.task.kind (promised p) (row_of p.tasks line) ≡ true
 unfolding row_of
 sound_row p line good are =
-  let few : nat_le (length (map (action_of p.tasks) line.orders)) 16 ≡ true = ap (λ n. nat_le n 16) (length-map line.orders (action_of p.tasks)) ∙ at_most _ good.few in
-  let expiry : (is_timerless good.task.kind && is_expiry line.delay) ≡ false = ap (λ d. barred d line.delay) (sym good.target.is_due) ∙ good.expiry in
-  both _ _ few (both _ _ (sound_actions p.tasks line.orders are good.known) (both _ _ (sound_expiry good.task.kind line.delay expiry good.ticks) (below _ _ good.target.next)))
+    let few : nat_le (length (map (action_of p.tasks) line.orders)) 16 ≡ true = ap (λ n. nat_le n 16) (length-map line.orders (action_of p.tasks)) ∙ at_most _ good.few in
+    let expiry : (is_timerless good.task.kind && is_expiry line.delay) ≡ false = ap (λ d. barred d line.delay) (sym good.target.is_due) ∙ good.expiry in
+    both _ _ few (both _ _ (sound_actions p.tasks line.orders are good.known) (both _ _ (sound_expiry good.task.kind line.delay expiry good.ticks) (below _ _ good.target.next)))
   where
     at_most : (n : ℕ) → nat_lt 16 n ≡ false → nat_le n 16 ≡ true
     at_most n e = grind (arith, nat_tests)
+
     below : (a b : ℕ) → a < b → nat_lt a b ≡ true
     below a b h = grind (arith, nat_tests)
 

@@ -1,20 +1,19 @@
 -- A script, line by line: the five settings, then the other lines.
-use Rattle.std.proofs.Common.{◌≡◌, ℕ, suc, zero, ◌+◌, ◌-◌, ◌≤◌, ◌<◌, Bool, true, false, cond, List, [], ◌∷◌, length, refl, ap, sym, ◌∙◌, arith, inl, inr, ◌⊎◌, subst}
-use Rattle.std.specs.Prelude.{Option, Some, None, Result, Ok, Err, ◌==◌, slice_get}
-use Rattle.std.proofs.lemmas.Option.{none-some}
+use Rattle.std.proofs.Common.{◌≡◌, ℕ, suc, zero, ◌+◌, ◌-◌, ◌≤◌, ◌<◌, Bool, true, false, List, [], ◌∷◌, length, refl, ap, sym, ◌∙◌, arith, inl, inr}
+use Rattle.std.specs.Prelude.{Option, Some, None, Result, Ok, Err, slice_get}
 use Rattle.step_tables.specs.declared.faults.ScriptFault.{ScriptFault}
 use Rattle.step_tables.specs.declared.tables.Script.{Script}
 use Rattle.step_tables.specs.declared.progress.Progress.{Progress}
 use Rattle.step_tables.specs.declared.shapes.Setting.{Setting}
 use Rattle.step_tables.specs.declared.shapes.Setting.TheVariants.{Workers, Depth, Start, Step, Rounds}
-use Rattle.step_tables.specs.Words.{Word, ◌>>=◌, is_empty, words_of}
-use Rattle.step_tables.specs.Shapes.{Said, sets, task, row, event, ends, setting_line, body_line}
+use Rattle.step_tables.specs.Words.{Word, is_empty, words_of}
+use Rattle.step_tables.specs.Shapes.{Said, sets}
 use Rattle.step_tables.specs.Text.{said_words}
-use Rattle.step_tables.specs.Judging.{first_fault, setting_tests, tests, value, no_number, outside, least, most, with_setting, with_line, setting_at, said_in, said_of, script_from, closed, go_on, taken, judged, is_line}
+use Rattle.step_tables.specs.Judging.{first_fault, tests, value, no_number, outside, least, most, with_setting, with_line, setting_at, said_in, said_of, script_from, closed, go_on, taken, judged}
 use Rattle.step_tables.proofs.Options.{bind_some}
 use Rattle.step_tables.proofs.Back.{IsBody, body_back, setting_back}
 use Rattle.step_tables.proofs.Good.{passes}
-use Rattle.step_tables.proofs.Steps.{IsHeader, IsSaid, Adds, IsTaken, taken_back, chose_one, chose_other}
+use Rattle.step_tables.proofs.Steps.{Adds, IsTaken, taken_back, chose_one}
 
 -- the open piece of a script is empty, and stands behind the line `end`
 pub record IsClosed (p : Progress) (piece : List ℕ) (s : Script) : Type 0 where
@@ -25,9 +24,9 @@ pub record IsClosed (p : Progress) (piece : List ℕ) (s : Script) : Type 0 wher
 pub closed_back : (long : Option ℕ) (n : ℕ) (p : Progress) (piece : List ℕ) (s : Script) → closed long n p piece ≡ Ok s → IsClosed p piece s
 unfolding closed
 closed_back long n p piece s e =
-  let (ended, more) = chose_one p.ended _ _ _ e (λ h. cc) in
-  let (none, is) = chose_one (is_empty piece) _ _ _ more (λ h. cc) in
-  record { ended = ended; nothing = empty piece none; script = cc }
+    let (ended, more) = chose_one p.ended _ _ _ e (λ h. cc) in
+    let (none, is) = chose_one (is_empty piece) _ _ _ more (λ h. cc) in
+    record { ended = ended; nothing = empty piece none; script = cc }
   where
     empty : (xs : List ℕ) → is_empty xs ≡ true → xs ≡ []
     empty [] h = refl
@@ -43,6 +42,11 @@ pub record OneLine (long : Option ℕ) (n : ℕ) (p : Progress) (line : List ℕ
   pub is : IsTaken long n line p after
   pub others : judged long (n + 1) after lines ≡ Ok s
 
+-- no line at all is an open piece too
+pub nil_back : (long : Option ℕ) (n : ℕ) (p : Progress) (s : Script) → judged long n p [] ≡ Ok s → IsClosed p [] s
+unfolding judged
+nil_back long n p s e = closed_back long n p [] s e
+
 -- the last line is the open piece, and each other line is taken
 pub last_back : (long : Option ℕ) (n : ℕ) (p : Progress) (line : List ℕ) (s : Script) → judged long n p (line ∷ []) ≡ Ok s → IsClosed p line s
 unfolding judged
@@ -51,8 +55,8 @@ last_back long n p line s e = closed_back long n p line s e
 pub line_back : (long : Option ℕ) (n : ℕ) (p : Progress) (line next : List ℕ) (lines : List (List ℕ)) (s : Script) → judged long n p (line ∷ next ∷ lines) ≡ Ok s → OneLine long n p line (next ∷ lines) s
 unfolding judged
 line_back long n p line next lines s e =
-  let (q, is, others) = go_on_back (taken long n p line) _ s e in
-  record { after = q; is = taken_back long n line p q is; others = others }
+    let (q, is, others) = go_on_back (taken long n p line) _ s e in
+    record { after = q; is = taken_back long n line p q is; others = others }
 
 -- where `end` has not come, there is a complete line
 pub record NextLine (long : Option ℕ) (n : ℕ) (p : Progress) (lines : List (List ℕ)) (s : Script) : Type 0 where
@@ -86,7 +90,7 @@ pub record SetLine (setting : Setting) (line : List ℕ) (p q : Progress) : Type
 pub set_line : (setting : Setting) (long : Option ℕ) (n : ℕ) (line : List ℕ) (p q : Progress) → setting_at n ≡ Some setting → (n ≡ 1 → ⊥) → IsTaken long n line p q → SetLine setting line p q
 unfolding said_of said_in with_line
 set_line setting long n line p q at later is = elim is.what [
-    inl h ↦ absurd (later h.first)
+  | inl h ↦ absurd (later h.first)
   | inr h ↦ (let (ws, words, said) = bind_some (words_of line) (said_in (setting_at n)) h.said h.says in
       let (w, is_said, ws_is) = setting_back setting ws h.said (ap (λ o. said_in o ws) (sym at) ∙ said) in
       let good : first_fault (tests p (sets setting w)) ≡ None = ap (λ x. first_fault (tests p x)) (sym is_said) ∙ h.adds.good in
@@ -97,7 +101,9 @@ set_line setting long n line p q at later is = elim is.what [
         words = words ∙ ap Some (ws_is ∙ ap said_words is_said);
         number = number;
         range = range;
-        added = ap (with_line p) (sym is_said) ∙ h.adds.added }) ]
+        added = ap (with_line p) (sym is_said) ∙ h.adds.added;
+      })
+]
 
 -- what a line after the settings says
 pub record BodyLine (line : List ℕ) (p q : Progress) : Type 0 where
@@ -115,8 +121,9 @@ get_past (x ∷ xs) (suc i) h = get_past xs i (omega arith)
 pub body_line_of : (long : Option ℕ) (n : ℕ) (line : List ℕ) (p q : Progress) → 6 < n → IsTaken long n line p q → BodyLine line p q
 unfolding said_of said_in setting_at
 body_line_of long n line p q behind is = elim is.what [
-    inl h ↦ absurd (let first = h.first in omega arith)
+  | inl h ↦ absurd (let first = h.first in omega arith)
   | inr h ↦ (let none : setting_at n ≡ None = get_past (Workers ∷ Depth ∷ Start ∷ Step ∷ Rounds ∷ []) (n - 2) (omega arith) in
       let (ws, words, said) = bind_some (words_of line) (said_in (setting_at n)) h.said h.says in
       let (body, ws_is) = body_back ws h.said (ap (λ o. said_in o ws) (sym none) ∙ said) in
-      record { said = h.said; body = body; words = words ∙ ap Some ws_is; unended = is.unended; adds = h.adds }) ]
+      record { said = h.said; body = body; words = words ∙ ap Some ws_is; unended = is.unended; adds = h.adds })
+]

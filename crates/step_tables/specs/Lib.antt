@@ -2,5 +2,6 @@ pub mod Words
 pub mod Shapes
 pub mod Text
 pub mod Sound
+pub mod Ranges
 pub mod Judging
 pub mod Views

@@ -5,6 +5,7 @@ mod adding;
 mod faults;
 mod first_form;
 mod judging;
+pub mod laws;
 mod lists;
 mod names;
 mod progress;

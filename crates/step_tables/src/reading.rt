@@ -1,10 +1,11 @@
 //! Reading a script, line by line.
 
-ghost use Rattle.std.specs.Prelude.{◌≡◌, ℕ, ◌<◌, ◌≤◌, ◌+◌, ◌^◌, length, Option, option_map, Ok, Err, Some, IfSome, IfOk, ◌-◌};
+ghost use Rattle.std.specs.Prelude.{◌≡◌, ℕ, ◌<◌, ◌≤◌, ◌+◌, ◌^◌, length, Option, option_map, Ok, Err, Some, IfSome, IfOk, IsTrue, ◌-◌};
 ghost use Rattle.step_tables.specs.declared.faults.ScriptError.TheVariants.{Refused};
 ghost use Rattle.step_tables.specs.Words.{words_of};
 ghost use Rattle.step_tables.specs.Shapes.{setting_line, body_line};
 ghost use Rattle.step_tables.specs.Judging.{judge_said, setting_at, said_in, said_of, judge, long_line, is_line, taken, closed, fault, script_within, script_of};
+ghost use Rattle.step_tables.specs.Sound.{is_sound};
 ghost use Rattle.step_tables.specs.Views.{said_view, Judges, Takes, Gives, words_in};
 
 use crate::faults::{ScriptError, ScriptFault};
@@ -188,9 +189,9 @@ fn script_within(alloc: Global, limit: usize, bytes: &[u8]) -> Result<Script, Sc
 
 impl Script {
     /// The script of a text, or the line and the kind of the text's first fault (docs/SCRIPT.md).
-    #[tactic(auto, unfolding(crate::specs::Judging::script_of))]
     pub fn read(alloc: Global, bytes: &[u8]) -> Result<Script, ScriptError>
-        ensures { Gives result (script_of bytes.now) }
+        ensures same { Gives result (script_of bytes.now) }
+        ensures sound { IfOk result (λ s. IsTrue (is_sound s)) }
     {
         let end = bytes.len().min(BYTE_LIMIT + 1);
         script_within(alloc, BYTE_LIMIT, &bytes[..end])

@@ -1,0 +1,250 @@
+-- What holds of what was read, line by line, and of the script at the end.
+use Rattle.std.proofs.Common.{◌≡◌, ℕ, suc, zero, ◌+◌, ◌-◌, ◌≤◌, ◌<◌, Bool, true, false, cond, List, [], ◌∷◌, ◌++◌, map, length, set, refl, ap, sym, ◌∙◌, arith, subst, length-append}
+use Rattle.std.specs.Prelude.{Option, Some, None, option_map, is_none, unwrap_or, bytes_eq, not, ◌||◌, ◌==◌, nat_le, nat_lt, slice_get, if◌then◌else◌}
+use Rattle.std.specs.List.{list_all, list_any, position_or_len}
+use Rattle.std.proofs.lemmas.Bool.{eqb-true}
+use Rattle.std.proofs.lemmas.Bool.Decides.{nat_tests}
+use Rattle.std.proofs.lemmas.List.{map-append, length-set}
+use Rattle.std.proofs.lemmas.List.Folds.{list_all-append}
+use Rattle.step_tables.specs.declared.tables.Row.{Row}
+use Rattle.step_tables.specs.declared.tables.TaskDef.{TaskDef}
+use Rattle.step_tables.specs.declared.tables.Event.{Event}
+use Rattle.step_tables.specs.declared.progress.Progress.{Progress}
+use Rattle.step_tables.specs.Words.{Word, is_empty, is_name}
+use Rattle.step_tables.specs.Shapes.{TaskLine, RowLine, EventLine, Said, sets, task, row, event, ends}
+use Rattle.step_tables.specs.Sound.{within, is_sound_action, distinct_names, rising_below, is_sound}
+use Rattle.step_tables.specs.Judging.{may_come, all_rows, due, promised, rows_made, value, most, unknown, named, with_task, with_row, with_event, with_line, with_row_at_end, task_of, row_of, event_of, script_from}
+use Rattle.step_tables.proofs.Back.{IsBody, AreOrders, IsOrder}
+use Rattle.step_tables.proofs.Good.{neither, GoodRow, good_row, GoodEvent, good_event, GoodTask, good_task}
+use Rattle.step_tables.proofs.Steps.{Adds}
+use Rattle.step_tables.proofs.RowsOf.{both, first_of_both, second_of_both, Fresh, Filled, filled_from_fresh, fresh_from_filled, fresh_more, filled_more, all_filled}
+use Rattle.step_tables.proofs.SoundParts.{sound_row, sound_task, sound_event}
+
+-- the names of tasks
+abbrev pub names_of : List TaskDef → List Word
+names_of tasks = map (λ t. t.name) tasks
+
+pub record Valid (p : Progress) : Type 0 where
+  pub workers : within 1 16 p.workers ≡ true
+  pub depth : within 1 1000 p.depth ≡ true
+  pub start : nat_le p.start 4294967295 ≡ true
+  pub step : within 1 1048576 p.step ≡ true
+  pub rounds : within 1 100000 p.rounds ≡ true
+  pub few : nat_le (length p.tasks) 4096 ≡ true
+  pub tables : Filled p.workers (length p.tasks) p.at p.tasks p.counts
+  pub names : distinct_names (names_of p.tasks) ≡ true
+  pub few_events : nat_le (length p.events) 65536 ≡ true
+  pub actions : list_all (λ e. is_sound_action (length p.tasks) e.action) p.events ≡ true
+  pub rising : rising_below 0 p.rounds p.events ≡ true
+  pub whole : is_empty p.events ≡ false → p.at ≡ length p.tasks
+  pub done : p.ended ≡ true → p.at ≡ length p.tasks
+
+test_is : (a b : ℕ) → (a == b) ≡ true → a ≡ b
+test_is a b e = eqb-true a b e
+
+empty_list : {A : Type 0} (xs : List A) → is_empty xs ≡ true → xs ≡ []
+empty_list [] e = refl
+empty_list (x ∷ xs) e = absurd (cc)
+
+clash : (b : Bool) → b ≡ true → b ≡ false → ⊥
+clash true e f = cc
+clash false e f = cc
+
+not_true : (b : Bool) → not b ≡ true → b ≡ false
+not_true true e = absurd (cc)
+not_true false e = refl
+
+at_most_more : (n most : ℕ) → nat_le most n ≡ false → nat_le (n + 1) most ≡ true
+at_most_more n most e = grind (arith, nat_tests)
+
+-- a name that no task has
+none_named : (tasks : List TaskDef) (name : Word) → unknown tasks name ≡ true → list_any (λ other. bytes_eq other name) (names_of tasks) ≡ false
+unfolding unknown named
+none_named tasks name e = far tasks (missing (nat_lt (position_or_len (λ t. bytes_eq t.name name) tasks) (length tasks)) (position_or_len (λ t. bytes_eq t.name name) tasks) refl e)
+  where
+    missing : (b : Bool) (i : ℕ) → nat_lt i (length tasks) ≡ b → is_none (cond b (Some i) None) ≡ true → length tasks ≤ i
+    missing true i h f = absurd (cc)
+    missing false i h f = grind (arith, nat_tests)
+
+    far : (ts : List TaskDef) → length ts ≤ position_or_len (λ t. bytes_eq t.name name) ts → list_any (λ other. bytes_eq other name) (names_of ts) ≡ false
+    far [] h = refl
+    far (t ∷ ts) h = step (bytes_eq t.name name) refl h (λ k. far ts k)
+      where
+        step : (b : Bool) → bytes_eq t.name name ≡ b → suc (length ts) ≤ cond (not b) (1 + position_or_len (λ u. bytes_eq u.name name) ts) 0
+            → (length ts ≤ position_or_len (λ u. bytes_eq u.name name) ts → list_any (λ other. bytes_eq other name) (names_of ts) ≡ false)
+            → (b || list_any (λ other. bytes_eq other name) (names_of ts)) ≡ false
+        step true is k others = absurd (omega arith)
+        step false is k others = others (omega arith)
+
+-- one name more
+distinct_more : (names : List Word) (name : Word) → distinct_names names ≡ true → list_any (λ other. bytes_eq other name) names ≡ false → distinct_names (names ++ name ∷ []) ≡ true
+distinct_more [] name d e = refl
+distinct_more (n ∷ ns) name d e =
+    let (first, others) = neither _ _ e in
+    both _ _ (ap not (any_more (λ other. bytes_eq n other) ns name (not_true _ (first_of_both _ _ d)) first)) (distinct_more ns name (second_of_both _ _ d) others)
+  where
+    any_more : (test : Word → Bool) (ws : List Word) (w : Word) → list_any test ws ≡ false → test w ≡ false → list_any test (ws ++ w ∷ []) ≡ false
+    any_more test [] w none is = ap (λ b. b || false) is
+    any_more test (v ∷ ws) w none is = let (a, b) = neither _ _ none in ap (λ c. c || list_any test (ws ++ w ∷ [])) a ∙ any_more test ws w b is
+
+-- a change that keeps what is seen
+map_set : {A B : Type 0} (f : A → B) (xs : List A) (i : ℕ) (x y : A) → slice_get xs i ≡ Some x → f y ≡ f x → map f (set xs i y) ≡ map f xs
+map_set f [] i x y e same = refl
+map_set f (v ∷ xs) zero x y e same = let is : v ≡ x = cc in ap (λ w. w ∷ map f xs) (same ∙ ap f (sym is))
+map_set f (v ∷ xs) (suc i) x y e same = ap (λ ws. f v ∷ ws) (map_set f xs i x y e same)
+
+-- the round of the last event, or this one
+abbrev last_from : ℕ → List Event → ℕ
+last_from from [] = from
+last_from from (e ∷ es) = last_from e.round es
+
+inside : (ys : List Event) (i : ℕ) → slice_get ys i ≡ None → i < length ys → ⊥
+inside [] i k l = omega arith
+inside (y ∷ ys) zero k l = cc
+inside (y ∷ ys) (suc i) k l = inside ys i k (omega arith)
+
+last_is : (from : ℕ) (es : List Event) → unwrap_or (option_map (λ e. e.round) (slice_get es (length es - 1))) from ≡ last_from from es
+last_is from [] = refl
+last_is from (e ∷ []) = refl
+last_is from (e ∷ f ∷ es) =
+    let index : suc (suc (length es)) - 1 ≡ suc (suc (length es) - 1) = omega arith in
+    ap (λ i. unwrap_or (option_map (λ x. x.round) (slice_get (e ∷ f ∷ es) i)) from) index ∙ other (f ∷ es) (omega arith) ∙ last_is e.round (f ∷ es)
+  where
+    other : (xs : List Event) → 1 ≤ length xs → unwrap_or (option_map (λ x. x.round) (slice_get xs (length xs - 1))) from ≡ unwrap_or (option_map (λ x. x.round) (slice_get xs (length xs - 1))) e.round
+    other xs h = go (slice_get xs (length xs - 1)) refl
+      where
+        go : (o : Option Event) → slice_get xs (length xs - 1) ≡ o → unwrap_or (option_map (λ x. x.round) o) from ≡ unwrap_or (option_map (λ x. x.round) o) e.round
+        go (Some x) k = refl
+        go None k = absurd (inside xs (length xs - 1) k (omega arith))
+
+-- one event more
+rising_more : (from rounds : ℕ) (es : List Event) (e : Event) → rising_below from rounds es ≡ true → last_from from es ≤ e.round → e.round < rounds → rising_below from rounds (es ++ e ∷ []) ≡ true
+rising_more from rounds [] e r low high = both _ _ (le from e.round low) (both _ _ (lt e.round rounds high) refl)
+  where
+    le : (a b : ℕ) → a ≤ b → nat_le a b ≡ true
+    le a b h = grind (arith, nat_tests)
+
+    lt : (a b : ℕ) → a < b → nat_lt a b ≡ true
+    lt a b h = grind (arith, nat_tests)
+rising_more from rounds (f ∷ es) e r low high =
+    both _ _ (first_of_both _ _ r) (both _ _ (first_of_both _ _ (second_of_both _ _ r)) (rising_more f.round rounds es e (second_of_both _ _ (second_of_both _ _ r)) low high))
+
+task_rows : (l : TaskLine) → (task_of l).rows ≡ []
+unfolding task_of
+task_rows l = refl
+
+task_name : (l : TaskLine) → (task_of l).name ≡ l.name
+unfolding task_of
+task_name l = refl
+
+row_name : (t : TaskDef) (r : Row) → (with_row_at_end t r).name ≡ t.name
+unfolding with_row_at_end
+row_name t r = refl
+
+event_round : (tasks : List TaskDef) (l : EventLine) → (event_of tasks l).round ≡ value l.round
+unfolding event_of
+event_round tasks l = refl
+
+valid_task : (p : Progress) (line : TaskLine) → is_name line.name ≡ true → p.ended ≡ false → may_come p (task line) ≡ true → GoodTask p line → Valid p → Valid (with_task p line)
+unfolding with_task
+valid_task p line name unended comes good v =
+    let none_started = first_of_both _ _ comes in
+    let no_events : p.events ≡ [] = empty_list p.events (second_of_both _ _ comes) in
+    let at_start : p.at ≡ 0 = test_is p.at 0 (first_of_both _ _ none_started) in
+    let none_made : rows_made (slice_get p.tasks p.at) ≡ 0 = test_is _ 0 (second_of_both _ _ none_started) in
+    let fresh : Fresh p.workers p.tasks p.counts = fresh_from_filled p.workers (length p.tasks) p.tasks p.counts
+    (subst (λ k. Filled p.workers (length p.tasks) k p.tasks p.counts) at_start v.tables) (ap (λ k. rows_made (slice_get p.tasks k)) (sym at_start) ∙ none_made) in
+    let long : length (p.tasks ++ task_of line ∷ []) ≡ length p.tasks + 1 = length-append p.tasks (task_of line ∷ []) in
+    record {
+      workers = v.workers;
+      depth = v.depth;
+      start = v.start;
+      step = v.step;
+      rounds = v.rounds;
+      few = ap (λ n. nat_le n 4096) long ∙ at_most_more (length p.tasks) 4096 good.few;
+      tables = subst (λ k. Filled p.workers (length (p.tasks ++ task_of line ∷ [])) k (p.tasks ++ task_of line ∷ []) (p.counts ++ value line.rows ∷ [])) (sym at_start)
+          (filled_from_fresh p.workers _ _ _ (fresh_more p.workers p.tasks p.counts (task_of line) (value line.rows) fresh (sound_task p line good name) (task_rows line)));
+      names = ap distinct_names (map-append (λ t. t.name) p.tasks (task_of line ∷ [])) ∙ distinct_more (names_of p.tasks) (task_of line).name v.names (none_named p.tasks (task_of line).name (ap (unknown p.tasks) (task_name line) ∙ good.new));
+      few_events = v.few_events;
+      actions = ap (λ es. list_all (λ e. is_sound_action (length (p.tasks ++ task_of line ∷ [])) e.action) es) no_events;
+      rising = v.rising;
+      whole = λ some. absurd (clash (is_empty p.events) (second_of_both _ _ comes) some);
+      done = λ ended. absurd (clash p.ended ended unended);
+    }
+
+valid_row : (p : Progress) (line : RowLine) → AreOrders line.orders → p.ended ≡ false → may_come p (row line) ≡ true → GoodRow p line → Valid p → Valid (with_row p (due p) (row_of p.tasks line))
+unfolding with_row
+valid_row p line are unended comes good v = subst (λ d. Valid (with_row p d (row_of p.tasks line))) (sym good.target.is_due) (
+    let new = with_row_at_end good.task (row_of p.tasks line) in
+    let long : length (set p.tasks p.at new) ≡ length p.tasks = length-set p.tasks p.at new in
+    record {
+      workers = v.workers;
+      depth = v.depth;
+      start = v.start;
+      step = v.step;
+      rounds = v.rounds;
+      few = ap (λ n. nat_le n 4096) long ∙ v.few;
+      tables = subst (λ n. Filled p.workers n (if length good.task.rows + 1 == promised p then p.at + 1 else p.at) (set p.tasks p.at new) p.counts) (sym long)
+          (filled_more p.workers (length p.tasks) p.at p.tasks p.counts good.task (row_of p.tasks line) _ v.tables good.target.is_due (sound_row p line good are) refl);
+      names = ap distinct_names (map_set (λ t. t.name) p.tasks p.at good.task new good.target.is_due (row_name good.task (row_of p.tasks line))) ∙ v.names;
+      few_events = v.few_events;
+      actions = ap (λ n. list_all (λ e. is_sound_action n e.action) p.events) long ∙ v.actions;
+      rising = v.rising;
+      whole = λ some. absurd (clash (all_rows p) (is_test p.at (length p.tasks) (v.whole some)) (not_true _ comes));
+      done = λ ended. absurd (clash p.ended ended unended);
+    })
+  where
+    is_test : (a b : ℕ) → a ≡ b → (a == b) ≡ true
+    is_test a b e = grind (arith, nat_tests)
+
+valid_event : (p : Progress) (line : EventLine) → IsOrder line.order → p.ended ≡ false → may_come p (event line) ≡ true → GoodEvent p line → Valid p → Valid (with_event p line)
+unfolding with_event
+valid_event p line is unended comes good v =
+    let long : length (p.events ++ event_of p.tasks line ∷ []) ≡ length p.events + 1 = length-append p.events (event_of p.tasks line ∷ []) in
+    let rising : last_from 0 p.events ≤ value line.round = subst (λ n. n ≤ value line.round) (last_is 0 p.events) good.rising in
+    record {
+      workers = v.workers;
+      depth = v.depth;
+      start = v.start;
+      step = v.step;
+      rounds = v.rounds;
+      few = v.few;
+      tables = v.tables;
+      names = v.names;
+      few_events = ap (λ n. nat_le n 65536) long ∙ at_most_more (length p.events) 65536 good.few;
+      actions = list_all-append (λ e. is_sound_action (length p.tasks) e.action) p.events (event_of p.tasks line ∷ []) ∙ both _ _ v.actions (both _ true (sound_event p line good is) refl);
+      rising = rising_more 0 p.rounds p.events (event_of p.tasks line) v.rising (subst (λ n. last_from 0 p.events ≤ n) (sym (event_round p.tasks line)) rising) (subst (λ n. n < p.rounds) (sym (event_round p.tasks line)) good.round);
+      whole = λ some. test_is p.at (length p.tasks) comes;
+      done = λ ended. absurd (clash p.ended ended unended);
+    }
+
+-- a line more
+pub valid_step : (p q : Progress) (said : Said) → IsBody said → p.ended ≡ false → Adds p said q → Valid p → Valid q
+unfolding with_line
+valid_step p q (sets setting w) body unended a v = absurd body
+valid_step p q (task line) body unended a v = subst Valid a.added (valid_task p line body unended a.comes (good_task p line a.good) v)
+valid_step p q (row line) body unended a v = subst Valid a.added (valid_row p line body.1 unended a.comes (good_row p line a.good) v)
+valid_step p q (event line) body unended a v = subst Valid a.added (valid_event p line body unended a.comes (good_event p line a.good) v)
+valid_step p q ends body unended a v = subst Valid a.added (record {
+  workers = v.workers;
+  depth = v.depth;
+  start = v.start;
+  step = v.step;
+  rounds = v.rounds;
+  few = v.few;
+  tables = v.tables;
+  names = v.names;
+  few_events = v.few_events;
+  actions = v.actions;
+  rising = v.rising;
+  whole = v.whole;
+  done = λ ended. test_is p.at (length p.tasks) a.comes;
+})
+
+-- the end
+pub valid_end : (p : Progress) → Valid p → p.ended ≡ true → is_sound (script_from p) ≡ true
+unfolding is_sound script_from
+valid_end p v ended =
+    both _ _ v.workers (both _ _ v.depth (both _ _ v.start (both _ _ v.step (both _ _ v.rounds (both _ _ v.few
+    (both _ _ (all_filled p.workers (length p.tasks) p.at p.tasks p.counts v.tables (v.done ended))
+    (both _ _ v.names (both _ _ v.few_events (both _ _ v.actions v.rising)))))))))
