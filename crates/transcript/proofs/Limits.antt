@@ -1,13 +1,18 @@
 -- A text within its limit is read as one without a limit.
-use Rattle.std.proofs.Common.{◌≡◌, ℕ, ◌+◌, ◌≤◌, Bool, true, false, if◌then◌else◌, nat_le, List, [], ◌∷◌, length, ◌==◌, Option, None, Result, Ok, Err, ap, ◌∙◌}
+use Rattle.std.proofs.Common.{◌≡◌, ℕ, ◌+◌, ◌≤◌, Bool, true, false, if◌then◌else◌, nat_le, List, [], ◌∷◌, length, ◌==◌, Option, None, Result, Ok, Err, ap, ◌∙◌, subst}
 use Rattle.std.proofs.lemmas.Bool.{cond-true, le-leb}
 use Rattle.transcript.specs.declared.lines.Line.{Line}
 use Rattle.transcript.specs.declared.shape.Said.{Said}
 use Rattle.transcript.specs.declared.shape.Progress.{Progress}
 use Rattle.transcript.specs.declared.faults.TextFault.{TextFault}
 use Rattle.transcript.specs.Grammar.{pieces, said}
-use Rattle.transcript.specs.Judging.{lines, lines_of, run_of, line_over, judged, judged_said, past, held, opening, with_front, go_on, closed, fault, is_line}
-use Rattle.transcript.proofs.TextBack.{front_back, go_back}
+use Rattle.transcript.specs.Judging.{lines, lines_of, run_of, line_over, Gives, judged, judged_said, past, held, opening, with_front, go_on, closed, fault, is_line}
+use Rattle.transcript.proofs.TextBack.{front_back, go_back, text_back}
+use Rattle.std.specs.List.{All, AllByRecursion}
+use Rattle.std.specs.Result.{IfOk}
+use Rattle.std.proofs.lemmas.List.Elements.{All-from_recursion}
+use Rattle.transcript.specs.HasText.{HasTextLine}
+use Rattle.transcript.specs.declared.faults.TextError.{TextError}
 
 within : (most : ℕ) (b : List ℕ) → length b ≤ most → line_over most b ≡ None
 within most b few = cond-true (nat_le (length b) most) None _ (le-leb (length b) most few)
@@ -44,3 +49,10 @@ lines_free (text ∷ next ∷ more) over n p ls e =
 pub limit_free : (b : List ℕ) (ls : List Line) → run_of b ≡ Ok ls → lines_of b ≡ Ok ls
 unfolding run_of
 limit_free b ls e = lines_free (pieces 10 b) (line_over 67108864 b) 1 opening ls e
+
+-- each line that is read has a text
+pub read_texts : (r : Result (List Line) TextError) (b : List ℕ) → Gives r (run_of b) → IfOk r (λ ls. All HasTextLine ls)
+read_texts (Ok ls) b e =
+    let back = text_back b ls (limit_free b ls e) in
+    All-from_recursion HasTextLine ls (subst (AllByRecursion HasTextLine) back.2 back.1.lines)
+read_texts (Err e) b g = tt

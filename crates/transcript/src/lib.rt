@@ -12,6 +12,8 @@ mod reader;
 mod reason_words;
 mod shape;
 mod tables;
+#[cfg(test)]
+mod tests;
 mod transcripts;
 mod writer;
 

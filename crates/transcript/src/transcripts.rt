@@ -1,6 +1,8 @@
 //! A transcript: the lines of a run. Contracts see the list.
 
-ghost use Rattle.std.specs.Prelude.{◌≡◌, List};
+ghost use Rattle.std.specs.Prelude.{◌≡◌, IfOk, List};
+ghost use Rattle.std.specs.List.{All};
+ghost use Rattle.transcript.specs.HasText.{HasTextLine};
 ghost use Rattle.transcript.specs.Judging.{Gives, run_of};
 
 use crate::faults::TextError;
@@ -57,7 +59,8 @@ impl Transcript {
     /// there is no memory.
     #[tactic(auto, unfolding(crate::specs::Judging::run_of))]
     pub fn read(alloc: Global, bytes: &[u8]) -> Result<Transcript, TextError>
-        ensures { Gives result (run_of bytes.now) }
+        ensures given { Gives result (run_of bytes.now) }
+        ensures texts { IfOk result (λ t. All HasTextLine t) }
     {
         read_within(alloc, MOST_BYTES, bytes)
     }
