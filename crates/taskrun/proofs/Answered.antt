@@ -12,10 +12,11 @@ use Rattle.taskrun.specs.declared.status.Status.TheVariants.{Done, ScriptRefused
 use Rattle.taskrun.specs.Answers.{OnScript, IsRefused, Wrote, WroteFront, Answers, Expected, IsRunning}
 use Rattle.taskrun.specs.Play.{play}
 use Rattle.taskrun.proofs.Forms.{play_is_run}
+use Rattle.taskrun.proofs.PlayTexts.{play_reads_back}
 
 -- what is written is the text of a run of the script, or a first part of it
 pub wrote : (before after : Option (List ℕ)) (s : Script) → is_first_form s ≡ true → is_sound s ≡ true → Appends before after (text_of (play s)) → OnScript (Ok s) (Wrote before after)
-wrote before after s first sound h = (first, (play s, play_is_run s first sound, h))
+wrote before after s first sound h = (first, (play s, play_is_run s first sound, play_reads_back s first sound, h))
 
 pub wrote_front : (before after : Option (List ℕ)) (s : Script) → is_first_form s ≡ true → is_sound s ≡ true → AppendsFront before after (text_of (play s)) → OnScript (Ok s) (WroteFront before after)
 wrote_front before after s first sound h = (first, (play s, play_is_run s first sound, h))

@@ -5,7 +5,9 @@ use Rattle.step_tables.specs.declared.faults.ScriptFault.{ScriptFault}
 use Rattle.step_tables.specs.declared.tables.Script.{Script}
 use Rattle.step_tables.specs.Sound.{is_first_form}
 use Rattle.run_model.specs.Run.{Run}
+use Rattle.transcript.specs.RunLines.{lines_of_run}
 use Rattle.transcript.specs.Spelling.{text_of}
+use Rattle.transcript.specs.Judging.{lines_of}
 use Rattle.taskrun.specs.declared.status.Status.{Status}
 use Rattle.taskrun.specs.declared.status.Status.TheVariants.{Done, ScriptRefused, Usage, ReadFault, WriteFault, NoMemory, NotLawful, TextRefused}
 use Rattle.taskrun.specs.Headline.{IsRunOf}
@@ -41,9 +43,10 @@ abbrev pub IsRefused : Result Script ScriptFault → ScriptFault → Type 0
 IsRefused (Ok script) fault = (is_first_form script ≡ false) × (fault ≡ other_form)
 IsRefused (Err first) fault = fault ≡ first
 
--- the whole text of a run of the script was written
+-- the whole text of a run of the script was written, and it reads back as that run
 abbrev pub Wrote : Option (List ℕ) → Option (List ℕ) → Script → Type 0
-Wrote before after script = (run : Run) × IsRunOf script run × Appends before after (text_of run)
+Wrote before after script =
+    (run : Run) × IsRunOf script run × (lines_of (text_of run) ≡ Ok (lines_of_run run)) × Appends before after (text_of run)
 
 -- a first part of the text of a run of the script was written
 abbrev pub WroteFront : Option (List ℕ) → Option (List ℕ) → Script → Type 0
