@@ -85,6 +85,28 @@ IsRunning NoMemory = Unit {0}
 IsRunning (NotLawful line) = ⊥
 IsRunning (TextRefused fault) = ⊥
 
+-- an answer after which nothing was written
+abbrev pub IsUnwritten : Status → Type 0
+IsUnwritten Done = ⊥
+IsUnwritten (ScriptRefused fault) = Unit {0}
+IsUnwritten Usage = Unit {0}
+IsUnwritten ReadFault = Unit {0}
+IsUnwritten WriteFault = ⊥
+IsUnwritten NoMemory = ⊥
+IsUnwritten (NotLawful line) = ⊥
+IsUnwritten (TextRefused fault) = ⊥
+
+-- an answer of the command run
+abbrev pub IsOfRun : Status → Type 0
+IsOfRun Done = Unit {0}
+IsOfRun (ScriptRefused fault) = Unit {0}
+IsOfRun Usage = Unit {0}
+IsOfRun ReadFault = Unit {0}
+IsOfRun WriteFault = Unit {0}
+IsOfRun NoMemory = Unit {0}
+IsOfRun (NotLawful line) = ⊥
+IsOfRun (TextRefused fault) = ⊥
+
 -- at most so many bytes were read
 abbrev pub ReadsAtMost : ℕ → Option (List ℕ) → Option (List ℕ) → Type 0
 ReadsAtMost most before after = (piece : List ℕ) × (length piece ≤ most) × Reads before after piece

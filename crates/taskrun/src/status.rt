@@ -28,8 +28,12 @@ pub enum Status {
 }
 
 impl Status {
+    ghost use Rattle.taskrun.specs.Answers.{code_of};
+
     /// The exit status, 0 to 7.
-    pub fn code(&self) -> u8 {
+    pub fn code(&self) -> u8
+        ensures { result ≡ code_of self.now }
+    {
         match self {
             Status::Done => 0,
             Status::ScriptRefused(_) => 1,

@@ -5,7 +5,7 @@ ghost use Rattle.std.specs.String.{string_bytes};
 ghost use Rattle.sched_base.specs.Streams.{Rose};
 ghost use Rattle.step_tables.specs.Judging.{script_of};
 ghost use Rattle.step_tables.specs.Sound.{is_sound, is_first_form};
-ghost use Rattle.taskrun.specs.Answers.{is_run, Answers, Expected, IsRunning, ReadsAtMost};
+ghost use Rattle.taskrun.specs.Answers.{is_run, Answers, Expected, IsRunning, IsUnwritten, IsOfRun, ReadsAtMost};
 
 use crate::pieces::{ReadError, read_all};
 use crate::rounds::{PlayError, play_out};
@@ -47,10 +47,12 @@ pub fn taskrun<S: Source, O: Sink, E: Sink, G: Gate + Sync>(
     // All was read where the answer is Done, and never more than a script may have and one byte.
     ensures ended { IfSome (S.left src.old) (λ _. result ≡ Status.Done → S.left src.new ≡ Some []) }
     ensures few { ReadsAtMost 4194305 (S.left src.old) (S.left src.new) }
-    // Usage comes exactly where the words are not the one word run; then nothing was read or written.
+    // Usage comes exactly where the words are not the one word run; then nothing was read.
     ensures usage { (result ≡ Status.Usage) ↔ (is_run (map (λ word. string_bytes word) words.now) ≡ false) }
     ensures unread { result ≡ Status.Usage → src.new ≡ src.old }
-    ensures unwritten { result ≡ Status.Usage → out.new ≡ out.old }
+    // After answers 1, 2 and 3 the sink is as it was, and answers 6 and 7 do not come.
+    ensures unwritten { IsUnwritten result → out.new ≡ out.old }
+    ensures of_run { IsOfRun result }
     // A fault comes only where the stream's count rose in this call.
     ensures read_fault { result ≡ Status.ReadFault → Rose (S.faults src.old) (S.faults src.new) }
     ensures write_fault { result ≡ Status.WriteFault → Rose (O.faults out.old) (O.faults out.new) }
@@ -76,6 +78,7 @@ fn run_bytes<O: Sink>(alloc: Global, bytes: &[u8], out: &mut O) -> Status
     ensures answers { Answers (script_of bytes.now) (O.held out.old) (O.held out.new) result }
     ensures write_fault { result ≡ Status.WriteFault → Rose (O.faults out.old) (O.faults out.new) }
     ensures counted { O.faults out.old ≤ O.faults out.new }
+    ensures unwritten { IsUnwritten result → out.new ≡ out.old }
     ensures running { IsRunning result }
 {
     match Script::read(alloc, bytes) {
@@ -91,6 +94,7 @@ fn run_script<O: Sink>(alloc: Global, script: &Script, out: &mut O) -> Status
     ensures answers { Answers (Ok script.now) (O.held out.old) (O.held out.new) result }
     ensures write_fault { result ≡ Status.WriteFault → Rose (O.faults out.old) (O.faults out.new) }
     ensures counted { O.faults out.old ≤ O.faults out.new }
+    ensures unwritten { IsUnwritten result → out.new ≡ out.old }
     ensures running { IsRunning result }
 {
     if !script.is_first_form() {
