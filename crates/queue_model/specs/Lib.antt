@@ -1,4 +1,5 @@
 pub mod Ticks
+pub mod Walk
 pub mod RunList
 pub mod WaitList
 pub mod Sweep
