@@ -4,7 +4,8 @@
 
 mod gates;
 mod keyed_lists;
-mod memory;
+mod memory_in;
+mod memory_out;
 mod names;
 mod plain_lists;
 mod reason_set;
@@ -13,7 +14,8 @@ mod streams;
 
 pub use gates::{Gate, OpenGate};
 pub use keyed_lists::KeyedLists;
-pub use memory::{MemSink, MemSource};
+pub use memory_in::MemSource;
+pub use memory_out::MemSink;
 pub use names::{CallerId, Class, TaskId};
 pub use plain_lists::PlainLists;
 pub use reason_set::Reasons;
