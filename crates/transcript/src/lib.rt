@@ -1,4 +1,4 @@
-//! The text of a run: its lines, and how they are written.
+//! The text of a run: its lines, how they are written, and how they are read.
 #![tactic(auto)]
 
 mod faults;
