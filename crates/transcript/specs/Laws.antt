@@ -1,11 +1,14 @@
 -- What is promised of the text of a run (docs/TRANSCRIPT.md, "Laws").
-use Rattle.std.specs.Prelude.{◌≡◌, ℕ, ◌+◌, ◌-◌, ◌≤◌, List, ◌++◌, length, Ok}
+use Rattle.std.specs.Prelude.{◌≡◌, ℕ, ◌+◌, ◌-◌, ◌≤◌, ◌<◌, suc, List, ◌++◌, length, take, Ok}
 use Rattle.run_model.specs.Run.{Round, Run}
 use Rattle.transcript.specs.declared.lines.Line.{Line}
 use Rattle.transcript.specs.RunLines.{lines_of_run}
 use Rattle.transcript.specs.HasText.{HasText}
 use Rattle.transcript.specs.Spelling.{text_of, head_text, rounds_text, end_text}
-use Rattle.transcript.specs.Judging.{lines_of, run_of}
+use Rattle.transcript.specs.Judging.{lines_of, run_of, run_within}
+use Rattle.transcript.specs.Front.{Front}
+use Rattle.step_tables.specs.declared.tables.Script.{Script}
+use Rattle.run_model.specs.Lawful.{LawfulRun}
 
 -- the text of a run is the first line, the rounds from round 0 on, and the end line
 abbrev pub TextInPieces : Type 0
@@ -30,3 +33,15 @@ ShortTextsAreWhole = (bytes : List ℕ) → length bytes ≤ 67108864 → run_of
 -- what is read under the limit is read without it
 abbrev pub LimitOnlyRefuses : Type 0
 LimitOnlyRefuses = (bytes : List ℕ) (ls : List Line) → run_of bytes ≡ Ok ls → lines_of bytes ≡ Ok ls
+
+-- of a text that is too long, only the bytes up to the one behind the limit count
+abbrev pub LongTextsAreCut : Type 0
+LongTextsAreCut = (most : ℕ) (bytes : List ℕ) → most < length bytes → run_within most bytes ≡ run_within most (take (suc most) bytes)
+
+-- lines in front of a front are a front
+abbrev pub FrontsBegin : Type 0
+FrontsBegin = (script : Script) (xs ys : List Line) → Front script (xs ++ ys) → Front script xs
+
+-- the lines of a lawful run are a front
+abbrev pub LawfulRunsAreFronts : Type 0
+LawfulRunsAreFronts = (script : Script) (run : Run) → LawfulRun script run → Front script (lines_of_run run)

@@ -6,3 +6,4 @@ pub mod Added
 pub mod Grammar
 pub mod Judging
 pub mod Taken
+pub mod Front

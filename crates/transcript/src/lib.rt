@@ -1,4 +1,4 @@
-//! The text of a run: its lines, and how they are written.
+//! The text of a run: its lines, how they are written, and how they are read.
 #![tactic(auto)]
 
 mod faults;
@@ -18,7 +18,7 @@ mod transcripts;
 mod writer;
 
 pub use faults::{TextError, TextFault};
-pub use laws::{limit_only_refuses, text_in_pieces, texts_are_read_as_written};
+pub use laws::{fronts_begin, limit_only_refuses, text_in_pieces, texts_are_read_as_written};
 pub use lines::Line;
 pub use transcripts::Transcript;
 pub use writer::{write_end, write_head, write_round};

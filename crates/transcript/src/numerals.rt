@@ -29,7 +29,7 @@ pub(crate) fn takes_number(word: &[u8]) -> Option<u64>
 /// A number without leading zeros, of at most 20 digits and at most `most`.
 #[tactic(auto, unfolding(crate::specs::Grammar::number))]
 fn number(word: &[u8], most: u64) -> Option<u64>
-    requires { most < 2 ^ 48 }
+    requires { most < 2 ^ 50 }
     ensures value { result ≡ number most word.now }
     ensures bound { IfSome result (λ n. n ≤ most) }
 {
@@ -56,7 +56,7 @@ fn has_leading_zero(word: &[u8]) -> bool
 
 /// The number that digits write, if it is at most `most`.
 fn digits(word: &[u8], most: u64) -> Option<u64>
-    requires { most < 2 ^ 48 }
+    requires { most < 2 ^ 50 }
     ensures value { result ≡ plain_number most word.now }
     ensures bound { IfSome result (λ n. n ≤ most) }
 {

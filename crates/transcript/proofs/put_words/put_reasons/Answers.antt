@@ -1,7 +1,7 @@
 -- Each name that is written moves from what is left to what stands.
 use Rattle.std.proofs.Common.{◌++◌, ap, ◌∙◌, sym, arith, append-nil}
 use Rattle.transcript.specs.Spelling.{reasons_word}
-use Rattle.transcript.proofs.Front.{kept_same, kept_then}
+use Rattle.transcript.proofs.KeptFront.{kept_same, kept_then}
 use Rattle.transcript.proofs.Listed.{named, left_start, left_yes, left_no, left_end}
 use Rattle.transcript.proofs.put_words.put_reasons.Goals as goal
 use Rattle.transcript.proofs.put_words.put_reasons.Goals.{then-rest-eq1+in_ok-put_name, else-rest-eq1}
