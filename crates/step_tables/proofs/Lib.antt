@@ -10,6 +10,7 @@ pub mod RowsOf
 pub mod SoundParts
 pub mod Valid
 pub mod Head
+pub mod WordsBack
 pub mod RangeLaws
 pub mod LineLoop
 pub mod ListViews
