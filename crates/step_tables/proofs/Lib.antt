@@ -11,6 +11,7 @@ pub mod SoundParts
 pub mod Valid
 pub mod Head
 pub mod WordsBack
+pub mod SoFarSaid
 pub mod RangeLaws
 pub mod LineLoop
 pub mod ListViews
