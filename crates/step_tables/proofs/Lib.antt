@@ -12,6 +12,7 @@ pub mod Valid
 pub mod Head
 pub mod WordsBack
 pub mod SoFarSaid
+pub mod ReadBack
 pub mod RangeLaws
 pub mod LineLoop
 pub mod ListViews

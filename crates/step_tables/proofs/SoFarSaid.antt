@@ -90,13 +90,13 @@ orders_back tasks [] are known = refl
 orders_back tasks (o ∷ os) are known = let (first, others) = neither _ _ known in λ i. order_back tasks o are.0 first i ∷ orders_back tasks os are.1 others i
 
 -- what a good line says is what is written of what it adds
-task_line_back : (p : Progress) (line : TaskLine) → GoodTask p line → task_said (task_of line) (value line.rows) ≡ task line
+pub task_line_back : (p : Progress) (line : TaskLine) → GoodTask p line → task_said (task_of line) (value line.rows) ≡ task line
 unfolding task_said task_of
 task_line_back p line good =
   let (place, rows) = neither _ _ good.numbers in
   λ i. task (record { name = line.name; place = place_back line.place place i; rows = sym (value_back line.rows rows) i; init = line.init })
 
-row_line_back : (p : Progress) (line : RowLine) (good : GoodRow p line) → AreOrders line.orders → row_said (names_of p.tasks) good.task.name (length good.task.rows) (row_of p.tasks line) ≡ row line
+pub row_line_back : (p : Progress) (line : RowLine) (good : GoodRow p line) → AreOrders line.orders → row_said (names_of p.tasks) good.task.name (length good.task.rows) (row_of p.tasks line) ≡ row line
 unfolding row_said row_of
 row_line_back p line good are =
   let (number, more) = neither _ _ good.numbers in
@@ -108,25 +108,25 @@ row_line_back p line good are =
     delay = delay_back line.delay delay i;
     next = sym (value_back line.next next) i })
 
-event_line_back : (p : Progress) (line : EventLine) → GoodEvent p line → IsOrder line.order → event_said (names_of p.tasks) (event_of p.tasks line) ≡ event line
+pub event_line_back : (p : Progress) (line : EventLine) → GoodEvent p line → IsOrder line.order → event_said (names_of p.tasks) (event_of p.tasks line) ≡ event line
 unfolding event_said event_of
 event_line_back p line good is = λ i. event (record { round = sym (value_back line.round good.number) i; order = order_back p.tasks line.order is good.known i })
 
 -- one task more
-tasks_more : (workers : ℕ) (ts : List TaskDef) (cs : List ℕ) (t : TaskDef) (c : ℕ) → Fresh workers ts cs → tasks_so_far (ts ++ t ∷ []) (cs ++ c ∷ []) ≡ tasks_so_far ts cs ++ task_said t c ∷ []
+pub tasks_more : (workers : ℕ) (ts : List TaskDef) (cs : List ℕ) (t : TaskDef) (c : ℕ) → Fresh workers ts cs → tasks_so_far (ts ++ t ∷ []) (cs ++ c ∷ []) ≡ tasks_so_far ts cs ++ task_said t c ∷ []
 tasks_more workers [] [] t c f = refl
 tasks_more workers [] (d ∷ cs) t c f = absurd f
 tasks_more workers (u ∷ ts) [] t c f = absurd f
 tasks_more workers (u ∷ ts) (d ∷ cs) t c f = ap (λ xs. task_said u d ∷ xs) (tasks_more workers ts cs t c f.2)
 
 -- tasks with no row say no row line
-no_rows_so_far : (workers : ℕ) (names : List Word) (ts : List TaskDef) (cs : List ℕ) → Fresh workers ts cs → rows_so_far names ts ≡ []
+pub no_rows_so_far : (workers : ℕ) (names : List Word) (ts : List TaskDef) (cs : List ℕ) → Fresh workers ts cs → rows_so_far names ts ≡ []
 unfolding rows_said
 no_rows_so_far workers names [] cs f = refl
 no_rows_so_far workers names (t ∷ ts) [] f = absurd f
 no_rows_so_far workers names (t ∷ ts) (c ∷ cs) f = λ i. rows_said names t.name 0 (f.1 i) ++ no_rows_so_far workers names ts cs f.2 i
 
-no_rows_more : (workers : ℕ) (names : List Word) (ts : List TaskDef) (cs : List ℕ) (t : TaskDef) → Fresh workers ts cs → t.rows ≡ [] → rows_so_far names (ts ++ t ∷ []) ≡ []
+pub no_rows_more : (workers : ℕ) (names : List Word) (ts : List TaskDef) (cs : List ℕ) (t : TaskDef) → Fresh workers ts cs → t.rows ≡ [] → rows_so_far names (ts ++ t ∷ []) ≡ []
 unfolding rows_said
 no_rows_more workers names [] cs t f none = λ i. rows_said names t.name 0 (none i) ++ []
 no_rows_more workers names (u ∷ ts) [] t f none = absurd f
@@ -144,7 +144,7 @@ with_row_said : (names : List Word) (t : TaskDef) (r : Row) → rows_said names 
 unfolding with_row_at_end
 with_row_said names t r = let z : 0 + length t.rows ≡ length t.rows = omega arith in rows_said_more names t.name 0 t.rows r ∙ ap (λ n. rows_said names t.name 0 t.rows ++ row_said names t.name n r ∷ []) z
 
-rows_more_so_far : (workers n at : ℕ) (names : List Word) (ts : List TaskDef) (cs : List ℕ) (t : TaskDef) (r : Row) → Filled workers n at ts cs → slice_get ts at ≡ Some t
+pub rows_more_so_far : (workers n at : ℕ) (names : List Word) (ts : List TaskDef) (cs : List ℕ) (t : TaskDef) (r : Row) → Filled workers n at ts cs → slice_get ts at ≡ Some t
   → rows_so_far names (set ts at (with_row_at_end t r)) ≡ rows_so_far names ts ++ row_said names t.name (length t.rows) r ∷ []
 rows_more_so_far workers n zero names [] cs t r f e = absurd (none-some t e)
 rows_more_so_far workers n zero names (u ∷ ts) [] t r f e = absurd f
@@ -164,7 +164,7 @@ same_task_said : (t : TaskDef) (r : Row) (c : ℕ) → task_said (with_row_at_en
 unfolding task_said with_row_at_end
 same_task_said t r c = refl
 
-tasks_same : (ts : List TaskDef) (cs : List ℕ) (at : ℕ) (t : TaskDef) (r : Row) → slice_get ts at ≡ Some t → tasks_so_far (set ts at (with_row_at_end t r)) cs ≡ tasks_so_far ts cs
+pub tasks_same : (ts : List TaskDef) (cs : List ℕ) (at : ℕ) (t : TaskDef) (r : Row) → slice_get ts at ≡ Some t → tasks_so_far (set ts at (with_row_at_end t r)) cs ≡ tasks_so_far ts cs
 tasks_same [] cs at t r e = refl
 tasks_same (u ∷ ts) [] zero t r e = refl
 tasks_same (u ∷ ts) (c ∷ cs) zero t r e = let same : u ≡ t = cc in ap (λ x. x ∷ tasks_so_far ts cs) (same_task_said t r c ∙ ap (λ v. task_said v c) (sym same))

@@ -128,7 +128,7 @@ rising_more from rounds [] e r low high = both _ _ (le from e.round low) (both _
 rising_more from rounds (f ∷ es) e r low high =
     both _ _ (first_of_both _ _ r) (both _ _ (first_of_both _ _ (second_of_both _ _ r)) (rising_more f.round rounds es e (second_of_both _ _ (second_of_both _ _ r)) low high))
 
-task_rows : (l : TaskLine) → (task_of l).rows ≡ []
+pub task_rows : (l : TaskLine) → (task_of l).rows ≡ []
 unfolding task_of
 task_rows l = refl
 
@@ -136,7 +136,7 @@ task_name : (l : TaskLine) → (task_of l).name ≡ l.name
 unfolding task_of
 task_name l = refl
 
-row_name : (t : TaskDef) (r : Row) → (with_row_at_end t r).name ≡ t.name
+pub row_name : (t : TaskDef) (r : Row) → (with_row_at_end t r).name ≡ t.name
 unfolding with_row_at_end
 row_name t r = refl
 
