@@ -13,6 +13,7 @@ pub mod Head
 pub mod WordsBack
 pub mod SoFarSaid
 pub mod ReadBack
+pub mod Limit
 pub mod RangeLaws
 pub mod LineLoop
 pub mod ListViews

@@ -1,27 +1,20 @@
 -- What the lines so far have said, told from what was read of them.
-use Rattle.std.proofs.Common.{◌≡◌, ℕ, suc, zero, ◌+◌, ◌-◌, ◌≤◌, ◌<◌, Bool, true, false, cond, List, [], ◌∷◌, ◌++◌, map, length, set, get_or, refl, ap, sym, ◌∙◌, arith, inl, inr, ◌⊎◌, subst, append_assoc, append-nil, add-one}
-use Rattle.std.specs.Prelude.{Option, Some, None, is_some, is_none, unwrap_or, bytes_eq, not, ◌||◌, ◌&&◌, ◌==◌, nat_lt, nat_le, decimal, slice_get, flat_map, if◌then◌else◌}
+use Rattle.std.proofs.Common.{◌≡◌, ℕ, suc, zero, ◌+◌, ◌<◌, Bool, true, false, cond, List, [], ◌∷◌, ◌++◌, map, length, set, refl, ap, sym, ◌∙◌, arith, subst, append_assoc, append-nil}
+use Rattle.std.specs.Prelude.{Some, None, is_none, unwrap_or, bytes_eq, not, nat_lt, decimal, slice_get, flat_map}
 use Rattle.std.specs.List.{list_any, position_or_len}
-use Rattle.std.specs.Fmt.{signed_decimal}
-use Rattle.std.proofs.lemmas.Bool.{eqb-true}
 use Rattle.std.proofs.lemmas.Bool.Decides.{nat_tests}
 use Rattle.std.proofs.lemmas.Option.{none-some}
-use Rattle.std.proofs.lemmas.List.{map-append}
-use Rattle.sched_base.specs.declared.names.Class.{Class}
-use Rattle.step_tables.specs.declared.tables.Action.{Action}
 use Rattle.step_tables.specs.declared.tables.Row.{Row}
 use Rattle.step_tables.specs.declared.tables.TaskDef.{TaskDef}
-use Rattle.step_tables.specs.declared.tables.Event.{Event}
 use Rattle.step_tables.specs.declared.progress.Progress.{Progress}
-use Rattle.step_tables.specs.Words.{Word, is_empty, is_name, reasons_of}
-use Rattle.step_tables.specs.Shapes.{Order, wakes, kills, Delay, keeps, after, never, Place, pinned, shared, tasklet, TaskLine, RowLine, EventLine, Said, sets, task, row, event, ends}
+use Rattle.step_tables.specs.Words.{Word}
+use Rattle.step_tables.specs.Shapes.{Order, wakes, kills, Delay, keeps, after, never, Place, pinned, shared, tasklet, TaskLine, RowLine, EventLine, Said, task, row, event, ends}
 use Rattle.step_tables.specs.Text.{name_at, order_said, delay_said, place_said, task_said, row_said, rows_said, event_said, names_of, body_said}
-use Rattle.step_tables.specs.Judging.{first_fault, tests, may_come, all_rows, due, promised, rows_made, value, signed_value, no_number, no_signed, place_no_number, delay_no_number, unknown, named, number_named, order_name, action_of, expiry_of, kind_of, task_of, row_of, event_of, with_task, with_row, with_event, with_line, with_row_at_end}
-use Rattle.step_tables.proofs.Back.{IsBody, IsOrder, AreOrders, bytes_same}
-use Rattle.step_tables.proofs.Good.{neither, Target, GoodRow, good_row, GoodEvent, good_event, GoodTask, good_task}
-use Rattle.step_tables.proofs.Steps.{Adds}
-use Rattle.step_tables.proofs.RowsOf.{first_of_both, second_of_both, Fresh, Filled, IsTaskOf, fresh_from_filled}
-use Rattle.step_tables.proofs.Valid.{Valid, map_set, empty_list, test_is, clash, not_true}
+use Rattle.step_tables.specs.Judging.{value, no_number, no_signed, place_no_number, delay_no_number, unknown, named, number_named, order_name, action_of, expiry_of, kind_of, task_of, row_of, event_of, with_row_at_end}
+use Rattle.step_tables.proofs.Back.{IsOrder, AreOrders, bytes_same}
+use Rattle.step_tables.proofs.Good.{neither, GoodRow, GoodEvent, GoodTask}
+use Rattle.step_tables.proofs.RowsOf.{Fresh, Filled}
+use Rattle.step_tables.proofs.Valid.{Valid}
 use Rattle.step_tables.proofs.WordsBack.{value_back, signed_value_back, reasons_back}
 
 -- the lines of tasks, with the rows that they promised
@@ -61,19 +54,19 @@ named_at [] name h = absurd (omega arith)
 named_at (t ∷ ts) name h = go (bytes_eq t.name name) refl h (λ k. named_at ts name k)
   where
     go : (b : Bool) → bytes_eq t.name name ≡ b → cond (not b) (1 + position_or_len (λ u. bytes_eq u.name name) ts) 0 < suc (length ts)
-      → (position_or_len (λ u. bytes_eq u.name name) ts < length ts → name_at (names_of ts) (position_or_len (λ u. bytes_eq u.name name) ts) ≡ name)
-      → name_at (t.name ∷ names_of ts) (cond (not b) (1 + position_or_len (λ u. bytes_eq u.name name) ts) 0) ≡ name
+        → (position_or_len (λ u. bytes_eq u.name name) ts < length ts → name_at (names_of ts) (position_or_len (λ u. bytes_eq u.name name) ts) ≡ name)
+        → name_at (t.name ∷ names_of ts) (cond (not b) (1 + position_or_len (λ u. bytes_eq u.name name) ts) 0) ≡ name
     go true is k others = bytes_same t.name name is
     go false is k others =
-      let index : 1 + position_or_len (λ u. bytes_eq u.name name) ts ≡ suc (position_or_len (λ u. bytes_eq u.name name) ts) = omega arith in
-      ap (name_at (t.name ∷ names_of ts)) index ∙ others (omega arith)
+        let index : 1 + position_or_len (λ u. bytes_eq u.name name) ts ≡ suc (position_or_len (λ u. bytes_eq u.name name) ts) = omega arith in
+        ap (name_at (t.name ∷ names_of ts)) index ∙ others (omega arith)
 
 name_back_at : (tasks : List TaskDef) (name : Word) → unknown tasks name ≡ false → name_at (names_of tasks) (number_named tasks name) ≡ name
 unfolding unknown number_named named
 name_back_at tasks name e = go (nat_lt (position_or_len (λ t. bytes_eq t.name name) tasks) (length tasks)) (position_or_len (λ t. bytes_eq t.name name) tasks) refl refl e
   where
     go : (b : Bool) (i : ℕ) → position_or_len (λ t. bytes_eq t.name name) tasks ≡ i → nat_lt i (length tasks) ≡ b → is_none (cond b (Some i) None) ≡ false
-      → name_at (names_of tasks) (unwrap_or (cond b (Some i) None) 0) ≡ name
+        → name_at (names_of tasks) (unwrap_or (cond b (Some i) None) 0) ≡ name
     go true i at h f = ap (name_at (names_of tasks)) (sym at) ∙ named_at tasks name (subst (λ k. k < length tasks) (sym at) (less i (length tasks) h))
       where
         less : (a b : ℕ) → nat_lt a b ≡ true → a < b
@@ -93,20 +86,21 @@ orders_back tasks (o ∷ os) are known = let (first, others) = neither _ _ known
 pub task_line_back : (p : Progress) (line : TaskLine) → GoodTask p line → task_said (task_of line) (value line.rows) ≡ task line
 unfolding task_said task_of
 task_line_back p line good =
-  let (place, rows) = neither _ _ good.numbers in
-  λ i. task (record { name = line.name; place = place_back line.place place i; rows = sym (value_back line.rows rows) i; init = line.init })
+    let (place, rows) = neither _ _ good.numbers in
+    λ i. task (record { name = line.name; place = place_back line.place place i; rows = sym (value_back line.rows rows) i; init = line.init })
 
 pub row_line_back : (p : Progress) (line : RowLine) (good : GoodRow p line) → AreOrders line.orders → row_said (names_of p.tasks) good.task.name (length good.task.rows) (row_of p.tasks line) ≡ row line
 unfolding row_said row_of
 row_line_back p line good are =
-  let (number, more) = neither _ _ good.numbers in
-  let (delay, next) = neither _ _ more in
-  λ i. row (record {
-    name = bytes_same good.task.name line.name good.target.name i;
-    number = (ap decimal (sym good.target.number) ∙ sym (value_back line.number number)) i;
-    orders = orders_back p.tasks line.orders are good.known i;
-    delay = delay_back line.delay delay i;
-    next = sym (value_back line.next next) i })
+    let (number, more) = neither _ _ good.numbers in
+    let (delay, next) = neither _ _ more in
+    λ i. row (record {
+      name = bytes_same good.task.name line.name good.target.name i;
+      number = (ap decimal (sym good.target.number) ∙ sym (value_back line.number number)) i;
+      orders = orders_back p.tasks line.orders are good.known i;
+      delay = delay_back line.delay delay i;
+      next = sym (value_back line.next next) i;
+    })
 
 pub event_line_back : (p : Progress) (line : EventLine) → GoodEvent p line → IsOrder line.order → event_said (names_of p.tasks) (event_of p.tasks line) ≡ event line
 unfolding event_said event_of
@@ -137,28 +131,28 @@ rows_said_more : (names : List Word) (name : Word) (k : ℕ) (rs : List Row) (r 
 unfolding rows_said
 rows_said_more names name k [] r = let z : k ≡ k + 0 = omega arith in ap (λ n. row_said names name n r ∷ []) z
 rows_said_more names name k (s ∷ rs) r =
-  let next : k + 1 + length rs ≡ k + suc (length rs) = omega arith in
-  ap (λ xs. row_said names name k s ∷ xs) (rows_said_more names name (k + 1) rs r ∙ ap (λ n. rows_said names name (k + 1) rs ++ row_said names name n r ∷ []) next)
+    let next : k + 1 + length rs ≡ k + suc (length rs) = omega arith in
+    ap (λ xs. row_said names name k s ∷ xs) (rows_said_more names name (k + 1) rs r ∙ ap (λ n. rows_said names name (k + 1) rs ++ row_said names name n r ∷ []) next)
 
 with_row_said : (names : List Word) (t : TaskDef) (r : Row) → rows_said names (with_row_at_end t r).name 0 (with_row_at_end t r).rows ≡ rows_said names t.name 0 t.rows ++ row_said names t.name (length t.rows) r ∷ []
 unfolding with_row_at_end
 with_row_said names t r = let z : 0 + length t.rows ≡ length t.rows = omega arith in rows_said_more names t.name 0 t.rows r ∙ ap (λ n. rows_said names t.name 0 t.rows ++ row_said names t.name n r ∷ []) z
 
 pub rows_more_so_far : (workers n at : ℕ) (names : List Word) (ts : List TaskDef) (cs : List ℕ) (t : TaskDef) (r : Row) → Filled workers n at ts cs → slice_get ts at ≡ Some t
-  → rows_so_far names (set ts at (with_row_at_end t r)) ≡ rows_so_far names ts ++ row_said names t.name (length t.rows) r ∷ []
+    → rows_so_far names (set ts at (with_row_at_end t r)) ≡ rows_so_far names ts ++ row_said names t.name (length t.rows) r ∷ []
 rows_more_so_far workers n zero names [] cs t r f e = absurd (none-some t e)
 rows_more_so_far workers n zero names (u ∷ ts) [] t r f e = absurd f
 rows_more_so_far workers n zero names (u ∷ ts) (c ∷ cs) t r f e =
-  let same : u ≡ t = cc in
-  let none = no_rows_so_far workers names ts cs f.3 in
-  (λ i. with_row_said names t r i ++ none i)
-  ∙ append-nil (rows_said names t.name 0 t.rows ++ row_said names t.name (length t.rows) r ∷ [])
-  ∙ ap (λ xs. xs ++ row_said names t.name (length t.rows) r ∷ []) (sym ((λ i. rows_said names (same i).name 0 (same i).rows ++ none i) ∙ append-nil (rows_said names t.name 0 t.rows)))
+    let same : u ≡ t = cc in
+    let none = no_rows_so_far workers names ts cs f.3 in
+    (λ i. with_row_said names t r i ++ none i)
+    ∙ append-nil (rows_said names t.name 0 t.rows ++ row_said names t.name (length t.rows) r ∷ [])
+    ∙ ap (λ xs. xs ++ row_said names t.name (length t.rows) r ∷ []) (sym ((λ i. rows_said names (same i).name 0 (same i).rows ++ none i) ∙ append-nil (rows_said names t.name 0 t.rows)))
 rows_more_so_far workers n (suc at) names [] cs t r f e = absurd f
 rows_more_so_far workers n (suc at) names (u ∷ ts) [] t r f e = absurd f
 rows_more_so_far workers n (suc at) names (u ∷ ts) (c ∷ cs) t r f e =
-  ap (λ xs. rows_said names u.name 0 u.rows ++ xs) (rows_more_so_far workers n at names ts cs t r f.3 e)
-  ∙ sym (append_assoc (rows_said names u.name 0 u.rows) (rows_so_far names ts) (row_said names t.name (length t.rows) r ∷ []))
+    ap (λ xs. rows_said names u.name 0 u.rows ++ xs) (rows_more_so_far workers n at names ts cs t r f.3 e)
+    ∙ sym (append_assoc (rows_said names u.name 0 u.rows) (rows_so_far names ts) (row_said names t.name (length t.rows) r ∷ []))
 
 same_task_said : (t : TaskDef) (r : Row) (c : ℕ) → task_said (with_row_at_end t r) c ≡ task_said t c
 unfolding task_said with_row_at_end
@@ -183,5 +177,5 @@ tasks_whole workers n (suc at) (t ∷ ts) (c ∷ cs) f e = λ i. task_said t (sy
 pub so_far_whole : (p : Progress) → Valid p → p.ended ≡ true → so_far p ≡ body_said p.tasks p.events
 unfolding body_said
 so_far_whole p v ended =
-  λ i. tasks_whole p.workers (length p.tasks) p.at p.tasks p.counts v.tables (v.done ended) i
+    λ i. tasks_whole p.workers (length p.tasks) p.at p.tasks p.counts v.tables (v.done ended) i
     ++ (rows_so_far (names_of p.tasks) p.tasks ++ (map (event_said (names_of p.tasks)) p.events ++ end_so_far (ended i)))

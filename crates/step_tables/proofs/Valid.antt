@@ -21,8 +21,6 @@ use Rattle.step_tables.proofs.Steps.{Adds}
 use Rattle.step_tables.proofs.RowsOf.{both, first_of_both, second_of_both, Fresh, Filled, filled_from_fresh, fresh_from_filled, fresh_more, filled_more, all_filled}
 use Rattle.step_tables.proofs.SoundParts.{sound_row, sound_task, sound_event}
 
-
-
 pub record Valid (p : Progress) : Type 0 where
   pub workers : within 1 16 p.workers ≡ true
   pub depth : within 1 1000 p.depth ≡ true

@@ -16,7 +16,7 @@ use Rattle.step_tables.specs.declared.tables.Event.{Event}
 use Rattle.step_tables.specs.declared.tables.Script.{Script}
 use Rattle.step_tables.specs.declared.shapes.Setting.TheVariants.{Workers, Depth, Start, Step, Rounds}
 use Rattle.step_tables.specs.Words.{Word, reason_names}
-use Rattle.step_tables.specs.Shapes.{Order, wakes, kills, Delay, keeps, after, never, Place, pinned, shared, tasklet, TaskLine, RowLine, EventLine, Said, sets, task, row, event, ends, setting_name}
+use Rattle.step_tables.specs.Shapes.{Order, wakes, kills, Delay, keeps, after, never, Place, pinned, shared, tasklet, Said, sets, task, row, event, ends, setting_name}
 
 abbrev pub class_name : Class → Word
 class_name Urgent = codes "urgent"
@@ -109,10 +109,10 @@ settings_said s = sets Workers (decimal s.workers) ∷ sets Depth (decimal s.dep
 -- the lines of the tasks, then those of their rows, then those of the events, then the last
 unfoldable pub body_said : List TaskDef → List Event → List Said
 body_said tasks events =
-  map (λ t. task_said t (length t.rows)) tasks
-  ++ (flat_map (λ t. rows_said (names_of tasks) t.name 0 t.rows) tasks
-  ++ (map (event_said (names_of tasks)) events
-  ++ ends ∷ []))
+    map (λ t. task_said t (length t.rows)) tasks
+    ++ (flat_map (λ t. rows_said (names_of tasks) t.name 0 t.rows) tasks
+    ++ (map (event_said (names_of tasks)) events
+    ++ ends ∷ []))
 
 -- a line of these words
 abbrev pub line_text : List Word → List ℕ
