@@ -8,7 +8,7 @@ use Rattle.std.proofs.lemmas.Bool.Decides.{nat_tests}
 use Rattle.step_tables.specs.declared.tables.TaskDef.{TaskDef}
 use Rattle.step_tables.specs.declared.progress.Progress.{Progress}
 use Rattle.step_tables.specs.Shapes.{TaskLine, RowLine, EventLine}
-use Rattle.step_tables.specs.Judging.{first_fault, task_tests, row_tests, event_tests, place_outside, delay_outside, outside, value, unknown, order_name, due, promised, wrong_target, barred, last_round}
+use Rattle.step_tables.specs.Judging.{no_number, delay_no_number, place_no_number, first_fault, task_tests, row_tests, event_tests, place_outside, delay_outside, outside, value, unknown, order_name, due, promised, wrong_target, barred, last_round}
 
 -- no kind was found, so the first test does not hold, and no kind is found behind it
 pub passes : (b : Bool) (kind : ℕ) (rest : Option ℕ) → cond b (Some kind) rest ≡ None → (b ≡ false) × (rest ≡ None)
@@ -48,6 +48,7 @@ target p line (Some task) is_due e =
 
 -- a good row
 pub record GoodRow (p : Progress) (line : RowLine) : Type 0 where
+  pub numbers : (no_number line.number || (delay_no_number line.delay || no_number line.next)) ≡ false
   pub task : TaskDef
   pub target : Target p line task
   pub known : list_any (λ order. unknown p.tasks (order_name order)) line.orders ≡ false
@@ -63,10 +64,11 @@ good_row p line e =
     let (expiry, e_5) = passes _ _ _ e_4 in
     let (ranges, e_6) = passes _ _ _ e_5 in
     let (task, is_target) = target p line (due p) refl row in
-    record { task = task; target = is_target; known = (neither _ _ names).1; expiry = expiry; few = (neither _ _ ranges).0; ticks = (neither _ _ ranges).1 }
+    record { numbers = numbers; task = task; target = is_target; known = (neither _ _ names).1; expiry = expiry; few = (neither _ _ ranges).0; ticks = (neither _ _ ranges).1 }
 
 -- a good event
 pub record GoodEvent (p : Progress) (line : EventLine) : Type 0 where
+  pub number : no_number line.round ≡ false
   pub known : unknown p.tasks (order_name line.order) ≡ false
   pub round : value line.round < p.rounds
   pub few : nat_le 65536 (length p.events) ≡ false
@@ -79,13 +81,14 @@ good_event p line e =
     let (ranges, e_4) = passes _ _ _ e_3 in
     let (round, more) = neither _ _ ranges in
     let (few, rising) = neither _ _ more in
-    record { known = names; round = not_le _ _ round; few = few; rising = ltb-false _ _ rising }
+    record { number = numbers; known = names; round = not_le _ _ round; few = few; rising = ltb-false _ _ rising }
   where
     not_le : (a b : ℕ) → nat_le a b ≡ false → b < a
     not_le a b h = grind (arith, nat_tests)
 
 -- a good task line
 pub record GoodTask (p : Progress) (line : TaskLine) : Type 0 where
+  pub numbers : (place_no_number line.place || no_number line.rows) ≡ false
   pub new : unknown p.tasks line.name ≡ true
   pub place : place_outside p.workers line.place ≡ false
   pub rows : outside 1 64 (value line.rows) ≡ false
@@ -98,4 +101,4 @@ good_task p line e =
     let (ranges, e_4) = passes _ _ _ e_3 in
     let (place, more) = neither _ _ ranges in
     let (rows, few) = neither _ _ more in
-    record { new = not_false _ names; place = place; rows = rows; few = few }
+    record { numbers = numbers; new = not_false _ names; place = place; rows = rows; few = few }

@@ -10,6 +10,10 @@ pub mod RowsOf
 pub mod SoundParts
 pub mod Valid
 pub mod Head
+pub mod WordsBack
+pub mod SoFarSaid
+pub mod ReadBack
+pub mod Limit
 pub mod RangeLaws
 pub mod LineLoop
 pub mod ListViews

@@ -12,6 +12,7 @@ use Rattle.step_tables.specs.declared.tables.Event.{Event}
 use Rattle.step_tables.specs.declared.progress.Progress.{Progress}
 use Rattle.step_tables.specs.Words.{Word, is_empty, is_name}
 use Rattle.step_tables.specs.Shapes.{TaskLine, RowLine, EventLine, Said, sets, task, row, event, ends}
+use Rattle.step_tables.specs.Text.{names_of}
 use Rattle.step_tables.specs.Sound.{within, is_sound_action, distinct_names, rising_below, is_sound}
 use Rattle.step_tables.specs.Judging.{may_come, all_rows, due, promised, rows_made, value, most, unknown, named, with_task, with_row, with_event, with_line, with_row_at_end, task_of, row_of, event_of, script_from}
 use Rattle.step_tables.proofs.Back.{IsBody, AreOrders, IsOrder}
@@ -19,10 +20,6 @@ use Rattle.step_tables.proofs.Good.{neither, GoodRow, good_row, GoodEvent, good_
 use Rattle.step_tables.proofs.Steps.{Adds}
 use Rattle.step_tables.proofs.RowsOf.{both, first_of_both, second_of_both, Fresh, Filled, filled_from_fresh, fresh_from_filled, fresh_more, filled_more, all_filled}
 use Rattle.step_tables.proofs.SoundParts.{sound_row, sound_task, sound_event}
-
--- the names of tasks
-abbrev pub names_of : List TaskDef → List Word
-names_of tasks = map (λ t. t.name) tasks
 
 pub record Valid (p : Progress) : Type 0 where
   pub workers : within 1 16 p.workers ≡ true
@@ -39,18 +36,18 @@ pub record Valid (p : Progress) : Type 0 where
   pub whole : is_empty p.events ≡ false → p.at ≡ length p.tasks
   pub done : p.ended ≡ true → p.at ≡ length p.tasks
 
-test_is : (a b : ℕ) → (a == b) ≡ true → a ≡ b
+pub test_is : (a b : ℕ) → (a == b) ≡ true → a ≡ b
 test_is a b e = eqb-true a b e
 
-empty_list : {A : Type 0} (xs : List A) → is_empty xs ≡ true → xs ≡ []
+pub empty_list : {A : Type 0} (xs : List A) → is_empty xs ≡ true → xs ≡ []
 empty_list [] e = refl
 empty_list (x ∷ xs) e = absurd (cc)
 
-clash : (b : Bool) → b ≡ true → b ≡ false → ⊥
+pub clash : (b : Bool) → b ≡ true → b ≡ false → ⊥
 clash true e f = cc
 clash false e f = cc
 
-not_true : (b : Bool) → not b ≡ true → b ≡ false
+pub not_true : (b : Bool) → not b ≡ true → b ≡ false
 not_true true e = absurd (cc)
 not_true false e = refl
 
@@ -88,7 +85,7 @@ distinct_more (n ∷ ns) name d e =
     any_more test (v ∷ ws) w none is = let (a, b) = neither _ _ none in ap (λ c. c || list_any test (ws ++ w ∷ [])) a ∙ any_more test ws w b is
 
 -- a change that keeps what is seen
-map_set : {A B : Type 0} (f : A → B) (xs : List A) (i : ℕ) (x y : A) → slice_get xs i ≡ Some x → f y ≡ f x → map f (set xs i y) ≡ map f xs
+pub map_set : {A B : Type 0} (f : A → B) (xs : List A) (i : ℕ) (x y : A) → slice_get xs i ≡ Some x → f y ≡ f x → map f (set xs i y) ≡ map f xs
 map_set f [] i x y e same = refl
 map_set f (v ∷ xs) zero x y e same = let is : v ≡ x = cc in ap (λ w. w ∷ map f xs) (same ∙ ap f (sym is))
 map_set f (v ∷ xs) (suc i) x y e same = ap (λ ws. f v ∷ ws) (map_set f xs i x y e same)
@@ -129,7 +126,7 @@ rising_more from rounds [] e r low high = both _ _ (le from e.round low) (both _
 rising_more from rounds (f ∷ es) e r low high =
     both _ _ (first_of_both _ _ r) (both _ _ (first_of_both _ _ (second_of_both _ _ r)) (rising_more f.round rounds es e (second_of_both _ _ (second_of_both _ _ r)) low high))
 
-task_rows : (l : TaskLine) → (task_of l).rows ≡ []
+pub task_rows : (l : TaskLine) → (task_of l).rows ≡ []
 unfolding task_of
 task_rows l = refl
 
@@ -137,7 +134,7 @@ task_name : (l : TaskLine) → (task_of l).name ≡ l.name
 unfolding task_of
 task_name l = refl
 
-row_name : (t : TaskDef) (r : Row) → (with_row_at_end t r).name ≡ t.name
+pub row_name : (t : TaskDef) (r : Row) → (with_row_at_end t r).name ≡ t.name
 unfolding with_row_at_end
 row_name t r = refl
 

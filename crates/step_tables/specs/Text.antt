@@ -1,8 +1,21 @@
--- The words that say what a line says: docs/SCRIPT.md, "Lines".
-use Rattle.std.specs.Prelude.{Bool, true, false, List, [], ◌∷◌, ◌++◌, codes, flat_map}
+-- The words that say what a line says, and the text of a script: docs/SCRIPT.md, "Lines" and "Text".
+use Rattle.std.specs.Prelude.{ℕ, ◌+◌, ◌/◌, ◌%◌, ◌==◌, Bool, true, false, List, [], ◌∷◌, ◌++◌, map, length, codes, flat_map, decimal, slice_index_or, if◌then◌else◌}
+use Rattle.std.specs.List.{join_with_byte}
+use Rattle.std.specs.Fmt.{signed_decimal}
 use Rattle.sched_base.specs.declared.names.Class.{Class}
 use Rattle.sched_base.specs.declared.names.Class.TheVariants.{Urgent, Normal, Bulk, Heavy}
-use Rattle.step_tables.specs.Words.{Word}
+use Rattle.step_tables.specs.declared.tables.Action.{Action}
+use Rattle.step_tables.specs.declared.tables.Action.TheVariants.{Wake, Kill}
+use Rattle.step_tables.specs.declared.tables.Expiry.{Expiry}
+use Rattle.step_tables.specs.declared.tables.Expiry.TheVariants.{Keep, After, Never}
+use Rattle.step_tables.specs.declared.tables.Kind.{Kind}
+use Rattle.step_tables.specs.declared.tables.Kind.TheVariants.{Pinned, Shared, Tasklet}
+use Rattle.step_tables.specs.declared.tables.Row.{Row}
+use Rattle.step_tables.specs.declared.tables.TaskDef.{TaskDef}
+use Rattle.step_tables.specs.declared.tables.Event.{Event}
+use Rattle.step_tables.specs.declared.tables.Script.{Script}
+use Rattle.step_tables.specs.declared.shapes.Setting.TheVariants.{Workers, Depth, Start, Step, Rounds}
+use Rattle.step_tables.specs.Words.{Word, reason_names}
 use Rattle.step_tables.specs.Shapes.{Order, wakes, kills, Delay, keeps, after, never, Place, pinned, shared, tasklet, Said, sets, task, row, event, ends, setting_name}
 
 abbrev pub class_name : Class → Word
@@ -41,3 +54,70 @@ said_words (task line) = task_word line.place ∷ line.name ∷ (place_words lin
 said_words (row line) = codes "row" ∷ line.name ∷ line.number ∷ (flat_map order_words line.orders ++ (delay_words line.delay ++ codes "next" ∷ line.next ∷ []))
 said_words (event line) = codes "event" ∷ line.round ∷ order_words line.order
 said_words ends = codes "end" ∷ []
+
+-- the names of the reasons in a set, each with its bit from the lowest on
+abbrev pub reasons_in : List Word → ℕ → List Word
+reasons_in [] bits = []
+reasons_in (name ∷ names) bits = if bits % 2 == 1 then name ∷ reasons_in names (bits / 2) else reasons_in names (bits / 2)
+
+-- the reason list of a set
+unfoldable pub reasons_text : ℕ → Word
+reasons_text bits = join_with_byte 44 (reasons_in reason_names bits)
+
+-- the name of the task of this number
+abbrev pub name_at : List Word → ℕ → Word
+name_at names i = slice_index_or names i []
+
+unfoldable pub order_said : List Word → Action → Order
+order_said names (Wake i reasons) = wakes (name_at names i.0) (reasons_text reasons)
+order_said names (Kill i) = kills (name_at names i.0)
+
+unfoldable pub delay_said : Expiry → Delay
+delay_said Keep = keeps
+delay_said (After ticks) = after (decimal ticks)
+delay_said Never = never
+
+unfoldable pub place_said : Kind → Place
+place_said (Pinned home nice) = pinned (decimal home) (signed_decimal nice)
+place_said (Shared nice) = shared (signed_decimal nice)
+place_said (Tasklet home class) = tasklet (decimal home) class
+
+-- the line of a task that has so many rows
+unfoldable pub task_said : TaskDef → ℕ → Said
+task_said t rows = task (record { name = t.name; place = place_said t.kind; rows = decimal rows; init = t.init })
+
+-- the line of the row of this number
+unfoldable pub row_said : List Word → Word → ℕ → Row → Said
+row_said names name number r = row (record { name = name; number = decimal number; orders = map (order_said names) r.actions; delay = delay_said r.expiry; next = decimal r.next })
+
+-- the lines of a task's rows, from this number on
+unfoldable pub rows_said : List Word → Word → ℕ → List Row → List Said
+rows_said names name number [] = []
+rows_said names name number (r ∷ rs) = row_said names name number r ∷ rows_said names name (number + 1) rs
+
+unfoldable pub event_said : List Word → Event → Said
+event_said names e = event (record { round = decimal e.round; order = order_said names e.action })
+
+-- the names of the tasks
+abbrev pub names_of : List TaskDef → List Word
+names_of tasks = map (λ t. t.name) tasks
+
+-- the lines of the settings
+abbrev pub settings_said : Script → List Said
+settings_said s = sets Workers (decimal s.workers) ∷ sets Depth (decimal s.depth) ∷ sets Start (decimal s.start) ∷ sets Step (decimal s.step) ∷ sets Rounds (decimal s.rounds) ∷ []
+
+-- the lines of the tasks, then those of their rows, then those of the events, then the last
+unfoldable pub body_said : List TaskDef → List Event → List Said
+body_said tasks events =
+    map (λ t. task_said t (length t.rows)) tasks
+    ++ (flat_map (λ t. rows_said (names_of tasks) t.name 0 t.rows) tasks
+    ++ (map (event_said (names_of tasks)) events
+    ++ ends ∷ []))
+
+-- a line of these words
+abbrev pub line_text : List Word → List ℕ
+line_text ws = join_with_byte 32 ws ++ 10 ∷ []
+
+-- the text of a script: the one that is read as this script
+unfoldable pub script_text : Script → List ℕ
+script_text s = codes "taskscript 1" ++ 10 ∷ flat_map (λ said. line_text (said_words said)) (settings_said s ++ body_said s.tasks s.events)

@@ -1,11 +1,19 @@
 //! Laws of scripts and of their texts.
 
-ghost use Rattle.std.specs.Prelude.{◌≡◌, true};
+ghost use Rattle.std.specs.Prelude.{◌≡◌, ◌≤◌, ℕ, true, List, length, Ok};
 ghost use Rattle.step_tables.specs.declared.tables.Script.{Script};
 ghost use Rattle.step_tables.specs.Sound.{is_sound};
 ghost use Rattle.step_tables.specs.Ranges.{ScriptRange};
+ghost use Rattle.step_tables.specs.Text.{script_text};
+ghost use Rattle.step_tables.specs.Judging.{script_of, byte_limit};
 
 /// In a script whose tables are in range each task, row, action and event is in range.
 pub fn ranges()
     ensures { (s : Script) → is_sound s ≡ true → ScriptRange s }
+{}
+
+/// A text that is read as a script is the text of that script, of at most 4,194,304 bytes.
+pub fn read_back()
+    ensures { (bytes : List ℕ) (s : Script) → script_of bytes ≡ Ok s
+        → (bytes ≡ script_text s) × (length bytes ≤ byte_limit) }
 {}
