@@ -1,2 +1,4 @@
+pub mod SweepSteps
 pub mod Walk
+pub mod WalkItems
 mod Worked

@@ -3,4 +3,5 @@ pub mod Walk
 pub mod RunList
 pub mod WaitList
 pub mod Sweep
+pub mod SweepStep
 pub mod Classes

@@ -1,0 +1,7 @@
+//! The timers of a worker's tasks: a queue that moves an entry only when it must
+//! (docs/TIMERS.md).
+#![tactic(auto)]
+
+mod wait_queue;
+
+pub use wait_queue::WaitQueue;

@@ -1,0 +1,103 @@
+//! The wait queue, over keyed lists that the caller lends.
+
+ghost use Rattle.std.specs.Prelude.{◌≡◌, ◌+◌, ◌^◌, ◌<◌, length, slice_index, replicate, IfOk, ℕ};
+ghost use Rattle.sched_base.specs.KeyedList.{KeyedRoots, root_at, first_entry, ChangesRoot};
+ghost use Rattle.queue_model.specs.WaitList.{WaitList, expiry_of, with_expiry, armed, unlinked};
+ghost use Rattle.queue_model.specs.SweepStep.{first_fired, stepped};
+ghost use Rattle.queue_model.specs.Walk.{walked};
+ghost use Rattle.wait_queue.specs.Timers.{Timers, wait_list, Fits, IsReady, Inserts, insertions_of, first_key, key_of_task, is_none_left};
+
+use sched_base::{KeyedLists, TaskId};
+use std::alloc::{AllocError, Global};
+use std::marker::Model;
+use ticks::{ETERNITY, is_expired, is_lt, is_set};
+
+/// How far back a walk over the keys begins, in milliseconds: half the circle.
+const LOOK_BACK: u32 = 1 << 31;
+
+/// The timers of some tasks. Their items stand in one root of keyed lists that the caller lends at
+/// each call: task i has the entry `2 * i`. Contracts see the root and, for each task, the tick at
+/// which it is due, 0 for unset (docs/TIMERS.md, "Wait queues").
+#[derive(Drop)]
+pub struct WaitQueue {
+    root: u32,
+    expiries: Vec<u32>,
+}
+
+impl Model for WaitQueue {
+    ghost use Rattle.wait_queue.specs.Timers.{Timers};
+
+    ghost Value = { Timers };
+
+    ghost view = { λ q. record { root = q.root; expiries = q.expiries.items } };
+}
+
+impl WaitQueue {
+    /// A queue in this root for tasks 0 to `tasks - 1`, none of which is due.
+    pub fn new(alloc: Global, root: u32, tasks: u32) -> Result<WaitQueue, AllocError>
+        ensures unset { IfOk result (λ q. q ≡ record { root = root; expiries = replicate tasks 0 }) }
+        ensures fits { IfOk result (λ q. (lists : KeyedRoots) → IsReady root tasks lists → Fits q lists) }
+    {
+        let mut expiries = Vec::new(alloc);
+        expiries.resize(tasks as usize, ETERNITY)?;
+        Ok(WaitQueue { root, expiries })
+    }
+
+    /// Sets the tick at which a task is due, 0 for never. Its item stays as it is.
+    pub fn set_expiry(&mut self, id: TaskId, tick: u32)
+        requires { id.0 < length self.old.expiries }
+        ensures list { (now : ℕ) (lists : KeyedRoots) → wait_list now self.new lists ≡ with_expiry id.0 tick (wait_list now self.old lists) }
+        ensures root { self.new.root ≡ self.old.root }
+        ensures fits { (lists : KeyedRoots) → Fits self.old lists → Fits self.new lists }
+    {
+        self.expiries[id.0 as usize] = tick;
+    }
+
+    /// The tick at which a task is due, 0 for never.
+    pub fn expiry(&self, id: TaskId) -> u32
+        requires { id.0 < length self.now.expiries }
+        ensures { result ≡ slice_index self.now.expiries id.0 }
+    {
+        self.expiries[id.0 as usize]
+    }
+
+    /// The first entry of the walk that begins half the circle before `now`.
+    fn first_walked<K: KeyedLists>(&self, lists: &K, now: u32) -> Option<u32>
+        requires { self.now.root < length (K.seen lists.now).roots }
+        ensures { result ≡ first_entry (walked now (root_at self.now.root (K.seen lists.now)).items) }
+    {
+        let start = now.wrapping_sub(LOOK_BACK);
+        match lists.lookup_ge(self.root, start) {
+            Some(entry) => Some(entry),
+            None => lists.first(self.root),
+        }
+    }
+
+    /// The key of the item that is due first; none where there is no item.
+    pub fn next_expiry<K: KeyedLists>(&self, lists: &K, now: u32) -> Option<u32>
+        requires { Fits self.now (K.seen lists.now) }
+        ensures { result ≡ first_key (wait_list now self.now (K.seen lists.now)).items }
+    {
+        let entry = self.first_walked(lists, now)?;
+        Some(lists.key_of(entry))
+    }
+
+    /// The key under which a task stands; none where it has no item.
+    pub fn key<K: KeyedLists>(&self, lists: &K, id: TaskId) -> Option<u32>
+        requires fits { Fits self.now (K.seen lists.now) }
+        requires exists { id.0 < length self.now.expiries }
+        ensures { (now : ℕ) → result ≡ key_of_task id.0 (wait_list now self.now (K.seen lists.now)).items }
+    {
+        let entry = 2 * id.0;
+        lists.root_of(entry)?;
+        Some(lists.key_of(entry))
+    }
+
+    /// Whether there is no item.
+    pub fn is_empty<K: KeyedLists>(&self, lists: &K) -> bool
+        requires { Fits self.now (K.seen lists.now) }
+        ensures { (now : ℕ) → result ≡ is_none_left (wait_list now self.now (K.seen lists.now)).items }
+    {
+        lists.first(self.root).is_none()
+    }
+}
