@@ -1,0 +1,3 @@
+pub mod LinkNumbers
+pub mod Links
+pub mod Parts
