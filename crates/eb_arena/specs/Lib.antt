@@ -1,3 +1,5 @@
 pub mod LinkNumbers
 pub mod Links
 pub mod Parts
+pub mod Shape
+pub mod Way
