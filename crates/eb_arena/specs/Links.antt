@@ -7,6 +7,11 @@ use Rattle.eb_arena.specs.declared.links.Target.TheVariants as targets
 use Rattle.eb_arena.specs.declared.links.Place.{Place}
 use Rattle.eb_arena.specs.declared.links.Place.TheVariants as places
 
+-- the other side
+abbrev pub opposite : Side → Side
+opposite sides.Left = sides.Right
+opposite sides.Right = sides.Left
+
 -- what the link with this number leads to
 abbrev pub target_of : ℕ → Target
 target_of n = if n == 4294967295 then targets.Nothing else (if n % 2 == 0 then targets.Leaf (n / 2) else targets.Node (n / 2))

@@ -1,5 +1,7 @@
 -- What an arena holds, its elements and what hangs on its roots (docs/TREES.md, "The arena").
 use Rattle.std.specs.Prelude.{ℕ, List, slice_index_or, slice_set, pos}
+use Rattle.eb_arena.specs.declared.links.Side.{Side}
+use Rattle.eb_arena.specs.declared.links.Side.TheVariants as sides
 use Rattle.eb_arena.specs.declared.links.Target.{Target}
 use Rattle.eb_arena.specs.declared.links.Target.TheVariants as targets
 use Rattle.eb_arena.specs.declared.links.Place.TheVariants as places
@@ -13,6 +15,11 @@ pub record Parts : Type 0 where
 -- an element whose entry is in no tree and whose node is unused
 abbrev pub unused : Element
 unused = record { left = targets.Nothing; right = targets.Nothing; node_p = places.Nowhere; leaf_p = places.Nowhere; key = 0; bit = pos 0 }
+
+-- what hangs at a side of an element's node
+abbrev pub child : Side → Element → Target
+child sides.Left e = e.left
+child sides.Right e = e.right
 
 -- the element with an index
 abbrev pub element_at : Parts → ℕ → Element

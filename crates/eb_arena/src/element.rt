@@ -1,8 +1,9 @@
 //! The element of an arena: a leaf and a node in one record.
 
 ghost use Rattle.std.specs.Prelude.{◌≡◌};
+ghost use Rattle.eb_arena.specs.Parts.{child};
 
-use crate::links::{Link, Up};
+use crate::links::{Link, Side, Up};
 
 /// One entry's leaf, with its key, and one branching node, each with its link up. A node with a
 /// bit of 0 or more branches at that bit of the keys; one with a negative bit holds equal keys.
@@ -32,4 +33,14 @@ impl Element {
         key: 0,
         bit: 0,
     };
+
+    /// What hangs at a side of the node.
+    pub fn child(&self, side: Side) -> Link
+        ensures { result ≡ child side self.now }
+    {
+        match side {
+            Side::Left => self.left,
+            Side::Right => self.right,
+        }
+    }
 }

@@ -1,7 +1,7 @@
 //! Links down to a part of an element and up to the place where a part hangs, as tagged numbers.
 
 ghost use Rattle.std.specs.Prelude.{◌≡◌, ◌≢◌, ◌<◌, Bool};
-ghost use Rattle.eb_arena.specs.Links.{is_nothing, is_leaf, index_of, link_number, is_nowhere, place_index, place_side, up_number};
+ghost use Rattle.eb_arena.specs.Links.{opposite, is_nothing, is_leaf, index_of, link_number, is_nowhere, place_index, place_side, up_number};
 ghost use Rattle.eb_arena.specs.declared.links.Target.TheVariants as targets;
 ghost use Rattle.eb_arena.specs.declared.links.Place.TheVariants as places;
 
@@ -12,6 +12,18 @@ use std::marker::Model;
 pub enum Side {
     Left,
     Right,
+}
+
+impl Side {
+    /// The other side.
+    pub fn opposite(self) -> Side
+        ensures { result ≡ opposite self }
+    {
+        match self {
+            Side::Left => Side::Right,
+            Side::Right => Side::Left,
+        }
+    }
 }
 
 /// What a link leads down to: nothing, or the leaf or the node of the element with this index.
