@@ -1,0 +1,4 @@
+pub mod Firsts
+pub mod Down
+pub mod Sides
+pub mod Up
