@@ -1,5 +1,5 @@
 -- The ends of a root's list, and what stands beside an entry (docs/TREES.md, "Walks").
-use Rattle.std.specs.Prelude.{◌≡◌, ◌≢◌, ℕ, ◌<◌, List, [], ◌∷◌, ◌++◌, length, reverse, Option, Some, None}
+use Rattle.std.specs.Prelude.{◌≡◌, ◌≢◌, ℕ, ◌<◌, ◌==◌, if◌then◌else◌, List, [], ◌∷◌, ◌++◌, length, reverse, Option, Some, None}
 use Rattle.sched_base.specs.KeyedList.{KeyedItem}
 use Rattle.eb_arena.specs.declared.links.Side.{Side}
 use Rattle.eb_arena.specs.declared.links.Side.TheVariants as sides
@@ -27,6 +27,15 @@ first_entry (x ∷ xs) = Some x.entry
 -- the last entry of a list
 abbrev pub last_entry : List KeyedItem → Option ℕ
 last_entry xs = first_entry (reverse xs)
+
+-- the first entry of a list, if it stands under key k
+abbrev pub first_under : ℕ → List KeyedItem → Option ℕ
+first_under k [] = None
+first_under k (x ∷ xs) = if x.key == k then Some x.entry else None
+
+-- the last entry of a list, if it stands under key k
+abbrev pub last_under : ℕ → List KeyedItem → Option ℕ
+last_under k xs = first_under k (reverse xs)
 
 -- the entry at an end of a list
 abbrev pub end_entry : Side → List KeyedItem → Option ℕ

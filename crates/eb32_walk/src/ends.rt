@@ -9,7 +9,7 @@ ghost use Rattle.eb32_walk.specs.Ends.{IsIn, IsTree, IsPlace, AtPlace, end_entry
 use eb_arena::{Arena, Link, Side, Target, Up};
 
 /// The entry at an end of the tree below a link.
-pub fn end_below(arena: &Arena, link: Link, side: Side) -> u32
+pub(crate) fn end_below(arena: &Arena, link: Link, side: Side) -> u32
     requires { IsTree arena.now link }
     ensures answer { end_entry side (list_below arena.now link) ≡ Some result }
     ensures in_tree { IsIn arena.now result }
@@ -22,7 +22,7 @@ pub fn end_below(arena: &Arena, link: Link, side: Side) -> u32
 }
 
 /// The entry next to a place on a side of it; none where the place is at that end of the tree.
-pub fn neighbour(arena: &Arena, up: Up, side: Side) -> Option<u32>
+pub(crate) fn neighbour(arena: &Arena, up: Up, side: Side) -> Option<u32>
     requires { IsPlace arena.now up }
     ensures answer { AtPlace arena.now up (λ w. result ≡ end_entry (opposite side) (beyond side w)) }
     ensures in_tree { IfSome result (IsIn arena.now) }

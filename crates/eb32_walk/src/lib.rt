@@ -2,8 +2,7 @@
 #![tactic(auto)]
 
 mod ends;
+mod heads;
+mod walks;
 
-
-
-
-
+pub use walks::{first, last, next, next_dup, next_unique, prev, prev_dup, prev_unique};

@@ -2,8 +2,8 @@
 use Rattle.std.proofs.Common.{◌≡◌, ℕ, zero, suc, ◌+◌, ◌-◌, ◌*◌, ◌/◌, ◌^◌, ◌<◌, ◌≤◌, ◌⊎◌, inl, inr, refl, sym, ap, ◌∙◌, subst, arith}
 use Rattle.std.specs.Prelude.{ℤ, pos, negsuc}
 use Rattle.std.proofs.lemmas.Bool.{cases_lt}
-use Rattle.std.proofs.lemmas.Nat.{pow-add}
-use Rattle.std.proofs.Math.Nat.{div-div-eq-div-mul}
+use Rattle.std.proofs.lemmas.Nat.{pow-add, le-div}
+use Rattle.std.proofs.Math.Nat.{div-div-eq-div-mul, mul-div-le, div-mul-le_self}
 use Rattle.eb_arena.specs.Shape.{Tree, tip, fork, Keys, HasLeaf, IsBit, IsBelow, DividesAt, Divides, Split}
 
 -- the key stands in the tree
@@ -80,3 +80,16 @@ pub rank_fits : (t : Tree) → Split t → tree_rank t < 32801
 rank_fits (tip e x) s = omega arith
 rank_fits (fork i (pos b) l r) s = let f : b < 32 = s.1 in omega arith
 rank_fits (fork i (negsuc n) l r) s = let f : n < 32768 = s.1 in omega arith
+
+-- the greater quotient has the greater number
+pub lt_by_div : (x y d : ℕ) → zero < d → x / d < y / d → x < y
+lt_by_div x y d p h =
+    let e : d * (y / d) ≤ y = mul-div-le y d in
+    elim (cases_lt x y) [
+      | inl lt ↦ lt
+      | inr le ↦ let f : y / d ≤ x / d = le-div (y / d) x d p (let g : y / d * d ≤ y = div-mul-le_self y d in omega arith) in absurd (omega arith)
+    ]
+
+-- the greater number has no smaller quotient
+pub div_le_div : (x y d : ℕ) → zero < d → x ≤ y → x / d ≤ y / d
+div_le_div x y d p h = le-div (x / d) y d p (let g : x / d * d ≤ x = div-mul-le_self x d in omega arith)

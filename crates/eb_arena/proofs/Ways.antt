@@ -8,8 +8,9 @@ use Rattle.eb_arena.specs.declared.links.Target.{Target}
 use Rattle.eb_arena.specs.declared.links.Place.{Place}
 use Rattle.eb_arena.specs.declared.links.Place.TheVariants as places
 use Rattle.eb_arena.specs.Parts.{Parts, element_at}
-use Rattle.eb_arena.specs.Shape.{Tree, tip, fork, items, Stands, Split}
+use Rattle.eb_arena.specs.Shape.{Tree, tip, fork, items, Stands, Split, HasLeaf}
 use Rattle.eb_arena.specs.Way.{Step, from_left, from_right, fill, plug, before, after, Leads}
+use Rattle.eb_arena.proofs.Trees.{Has}
 
 -- a part of a split tree is split
 pub part_split : (w : List Step) (t : Tree) → Split (plug w t) → Split t
@@ -83,3 +84,31 @@ item_way a q (fork i b l r) c target place e k xs ys us vs s w h u v =
       | inl f ↦ item_way a q l (from_left i b r ∷ c) _ _ e k xs f.zs us vs s.4 (refl, s.1, s.3, s.5, up) f.front u (sym (append_assoc f.zs (items r) (after c)) ∙ (ap (λ zs. zs ++ after c) f.back ∙ v))
       | inr f ↦ item_way a q r (from_right i b l ∷ c) _ _ e k f.zs ys us vs s.5 (refl, s.1, s.3, s.4, up) f.back (append_assoc (before c) (items l) f.zs ∙ (ap (λ zs. before c ++ zs) f.front ∙ u)) v
     ]
+
+-- the way up from an entry that a tree has
+pub record LeafWay (a : Parts) (q : ℕ) (whole : Tree) (e : ℕ) : Type 0 where
+  pub way : List Step
+  pub leads : Leads a q (element_at a e).leaf_p way
+  pub whole_is : plug way (tip e (element_at a e).key) ≡ whole
+  pub fits : e < length a.elements
+
+pub leaf_way : (a : Parts) (q : ℕ) (t : Tree) (c : List Step) (target : Target) (place : Place) (e : ℕ) → Stands a target place t → Leads a q place c → HasLeaf e t → LeafWay a q (plug c t) e
+leaf_way a q (tip f m) c target place e s w h =
+    record {
+      way = c;
+      leads = subst (λ p. Leads a q p c) (sym s.2 ∙ ap (λ n. (element_at a n).leaf_p) (sym h)) w;
+      whole_is = ap (λ n. plug c (tip n (element_at a n).key)) h ∙ ap (λ n. plug c (tip f n)) s.3;
+      fits = subst (λ n. n < length a.elements) (sym h) s.1;
+    }
+leaf_way a q (fork i b l r) c target place e s w h =
+    let up : Leads a q (element_at a i).node_p c = subst (λ p. Leads a q p c) (sym s.2) w in
+    elim h [
+      | inl g ↦ leaf_way a q l (from_left i b r ∷ c) _ _ e s.4 (refl, s.1, s.3, s.5, up) g
+      | inr g ↦ leaf_way a q r (from_right i b l ∷ c) _ _ e s.5 (refl, s.1, s.3, s.4, up) g
+    ]
+
+-- the key of an entry that a tree has stands in it
+pub leaf_key : (a : Parts) (t : Tree) (target : Target) (place : Place) (e : ℕ) → Stands a target place t → HasLeaf e t → Has (element_at a e).key t
+leaf_key a (tip f m) target place e s h = sym s.3 ∙ ap (λ n. (element_at a n).key) (sym h)
+leaf_key a (fork i b l r) target place e s h =
+    elim h [ inl g ↦ inl (leaf_key a l _ _ e s.4 g) | inr g ↦ inr (leaf_key a r _ _ e s.5 g) ]

@@ -1,5 +1,5 @@
 -- What an arena holds, its elements and what hangs on its roots (docs/TREES.md, "The arena").
-use Rattle.std.specs.Prelude.{ℕ, List, slice_index_or, slice_set, pos}
+use Rattle.std.specs.Prelude.{ℕ, ℤ, pos, negsuc, Bool, true, false, List, slice_index_or, slice_set}
 use Rattle.eb_arena.specs.declared.links.Side.{Side}
 use Rattle.eb_arena.specs.declared.links.Side.TheVariants as sides
 use Rattle.eb_arena.specs.declared.links.Target.{Target}
@@ -15,6 +15,11 @@ pub record Parts : Type 0 where
 -- an element whose entry is in no tree and whose node is unused
 abbrev pub unused : Element
 unused = record { left = targets.Nothing; right = targets.Nothing; node_p = places.Nowhere; leaf_p = places.Nowhere; key = 0; bit = pos 0 }
+
+-- whether a bit is negative
+abbrev pub is_negative : ℤ → Bool
+is_negative (pos b) = false
+is_negative (negsuc n) = true
 
 -- what hangs at a side of an element's node
 abbrev pub child : Side → Element → Target

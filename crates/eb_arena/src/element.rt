@@ -1,7 +1,7 @@
 //! The element of an arena: a leaf and a node in one record.
 
 ghost use Rattle.std.specs.Prelude.{◌≡◌};
-ghost use Rattle.eb_arena.specs.Parts.{child};
+ghost use Rattle.eb_arena.specs.Parts.{child, is_negative};
 
 use crate::links::{Link, Side, Up};
 
@@ -33,6 +33,13 @@ impl Element {
         key: 0,
         bit: 0,
     };
+
+    /// Whether the node holds equal keys: its bit is negative.
+    pub fn has_equal_keys(&self) -> bool
+        ensures { result ≡ is_negative self.now.bit }
+    {
+        self.bit < 0
+    }
 
     /// What hangs at a side of the node.
     pub fn child(&self, side: Side) -> Link
