@@ -125,7 +125,7 @@ high_up (from_left j (negsuc c) v ∷ w) i b l r s = (part_split w (fork j (negs
 high_up (from_right j (pos c) v ∷ w) i b l r s = tt
 high_up (from_right j (negsuc c) v ∷ w) i b l r s = (part_split w (fork j (negsuc c) v (fork i (pos b) l r)) s).2.right_below
 
-greater : (b q k x : ℕ) → k / 2 ^ b ≡ 2 * q → x / 2 ^ b ≡ 2 * q + 1 → k < x
+pub greater : (b q k x : ℕ) → k / 2 ^ b ≡ 2 * q → x / 2 ^ b ≡ 2 * q + 1 → k < x
 greater b q k x e f = lt_by_div k x (2 ^ b) (pow_pos b) (omega arith)
 
 -- from a node that branches at a bit on, all that is before a key is smaller, and all that is after it is greater

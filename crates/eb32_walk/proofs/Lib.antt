@@ -3,5 +3,7 @@ pub mod Down
 pub mod Entries
 pub mod Keyed
 pub mod Climbing
+pub mod Seeking
+pub mod Finding
 pub mod Sides
 pub mod Up

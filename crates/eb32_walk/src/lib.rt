@@ -3,6 +3,8 @@
 
 mod ends;
 mod heads;
+mod search;
 mod walks;
 
+pub use search::{lookup, lookup_ge, lookup_le};
 pub use walks::{first, last, next, next_dup, next_unique, prev, prev_dup, prev_unique};
