@@ -1,6 +1,6 @@
 -- The climb from an entry to the head of its key.
-use Rattle.std.proofs.Common.{◌≡◌, ◌≢◌, ℕ, zero, suc, ◌+◌, ◌*◌, ◌/◌, ◌^◌, ◌-◌, ◌<◌, ◌≤◌, ◌⊎◌, inl, inr, List, [], ◌∷◌, ◌++◌, length, Bool, true, false, not, eqb, filter, refl, sym, ap, ◌∙◌, subst, arith, append_assoc, ne_eqb, eq-eqb}
-use Rattle.std.specs.Prelude.{ℤ, pos, negsuc, Option, Some, None, ◌==◌}
+use Rattle.std.proofs.Common.{◌≡◌, ◌≢◌, ℕ, ◌+◌, ◌*◌, ◌/◌, ◌^◌, ◌<◌, ◌≤◌, ◌⊎◌, inl, inr, List, [], ◌∷◌, ◌++◌, length, Bool, true, false, not, filter, refl, sym, ap, ◌∙◌, subst, arith, append_assoc, ne_eqb, eq-eqb}
+use Rattle.std.specs.Prelude.{pos, negsuc, Option, ◌==◌}
 use Rattle.std.proofs.lemmas.List.{append-nil}
 use Rattle.std.proofs.lemmas.List.Elements.{filter-append}
 use Rattle.std.proofs.lemmas.Nat.{pow_pos}
@@ -8,14 +8,15 @@ use Rattle.sched_base.specs.KeyedList.{KeyedItem}
 use Rattle.eb_arena.specs.declared.links.Place.{Place}
 use Rattle.eb_arena.specs.Links.{place_index}
 use Rattle.eb_arena.specs.Parts.{Parts, element_at, is_negative}
-use Rattle.eb_arena.specs.Shape.{Tree, tip, fork, items, Keys, Split, DividesAt, Equals, HasShape, list_of}
-use Rattle.eb_arena.specs.Way.{Step, from_left, from_right, fill, plug, before, after, Leads}
+use Rattle.eb_arena.specs.Shape.{Tree, tip, fork, items, Keys, Split, DividesAt, Equals, HasShape}
+use Rattle.eb_arena.specs.Way.{Step, from_left, from_right, plug, before, after, Leads}
 use Rattle.eb_arena.proofs.Trees.{Has, keys_at, keys_map, lt_by_div}
 use Rattle.eb_arena.proofs.Ways.{part_split}
-use Rattle.eb32_walk.specs.Ends.{IsIn, IsPlace, AtEntry, AtPlace, first_entry, last_entry}
-use Rattle.eb32_walk.specs.Heads.{AllKeys, IsHead}
-use Rattle.eb32_walk.proofs.Entries.{EntryWay, entry_way, entry_place}
-use Rattle.eb32_walk.proofs.Keyed.{all-append, all_items, all_map, filter_none, filter_all}
+use Rattle.eb32_walk.specs.Ends.{IsPlace, AtEntry, AtPlace, first_entry, last_entry}
+use Rattle.eb_arena.specs.Shape.{AllKeys}
+use Rattle.eb32_walk.specs.Heads.{IsHead}
+use Rattle.eb32_walk.proofs.Entries.{EntryWay, entry_way}
+use Rattle.eb_arena.proofs.Keyed.{all-append, all_items, all_map, filter_none, filter_all}
 
 -- at the place hangs a tree of key k with an item, what of xs is before it and what of ys after it
 pub record Climbed (a : Parts) (place : Place) (xs : List KeyedItem) (k : ℕ) (ys : List KeyedItem) : Type 0 where

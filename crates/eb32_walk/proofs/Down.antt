@@ -1,6 +1,6 @@
 -- One step down a tree, on one of its sides.
-use Rattle.std.proofs.Common.{◌≡◌, ◌≢◌, ℕ, zero, suc, ◌+◌, ◌<◌, ◌≤◌, List, [], ◌∷◌, ◌++◌, length, refl, sym, ap, ◌∙◌, subst, arith}
-use Rattle.std.specs.Prelude.{ℤ, Option, Some, None}
+use Rattle.std.proofs.Common.{◌≡◌, ◌≢◌, ℕ, ◌<◌, [], ◌∷◌, ◌++◌, length, refl, sym, ap, ◌∙◌, subst, arith}
+use Rattle.std.specs.Prelude.{Some}
 use Rattle.sched_base.specs.KeyedList.{KeyedItem}
 use Rattle.eb_arena.specs.declared.links.Side.{Side}
 use Rattle.eb_arena.specs.declared.links.Side.TheVariants as sides
@@ -9,13 +9,13 @@ use Rattle.eb_arena.specs.declared.links.Target.TheVariants as targets
 use Rattle.eb_arena.specs.declared.links.Place.{Place}
 use Rattle.eb_arena.specs.declared.links.Place.TheVariants as places
 use Rattle.eb_arena.specs.declared.element.Element.{Element}
-use Rattle.eb_arena.specs.Links.{index_of, opposite}
+use Rattle.eb_arena.specs.Links.{index_of}
 use Rattle.eb_arena.specs.Parts.{Parts, element_at, child}
 use Rattle.eb_arena.specs.Shape.{Tree, tip, fork, items, Stands, Split, list_below}
 use Rattle.eb_arena.proofs.Trees.{bit_rank, tree_rank, falls_left, falls_right}
 use Rattle.eb_arena.proofs.Reading.{list_below_is}
 use Rattle.eb32_walk.specs.Ends.{IsIn, IsTree, end_entry, first_entry, last_entry}
-use Rattle.eb32_walk.proofs.Firsts.{first_of, last_of, or_else, first-append, last-append}
+use Rattle.eb32_walk.proofs.Firsts.{first_of, last_of}
 
 -- how far down a target can lead
 abbrev pub target_rank : Parts → Target → ℕ

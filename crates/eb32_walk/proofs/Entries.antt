@@ -1,5 +1,5 @@
 -- Where an entry stands in a root's list, and the way up from it.
-use Rattle.std.proofs.Common.{◌≡◌, ◌≢◌, ℕ, ◌+◌, ◌<◌, ◌≤◌, List, [], ◌∷◌, ◌++◌, length, reverse, eqb, cond, Bool, true, false, eq-eqb, ne_eqb, refl, sym, ap, ◌∙◌, subst, arith, append_assoc}
+use Rattle.std.proofs.Common.{◌≡◌, ◌≢◌, ℕ, ◌<◌, List, [], ◌∷◌, ◌++◌, length, reverse, Bool, true, false, eq-eqb, ne_eqb, refl, sym, ap, ◌∙◌, subst, append_assoc}
 use Rattle.std.specs.Prelude.{Option, Some, None, IsSomeAnd, ◌==◌, if◌then◌else◌}
 use Rattle.std.specs.Option.{unwrap_or}
 use Rattle.std.proofs.lemmas.List.{append-nil, reverse-append, reverse-reverse}
@@ -8,15 +8,14 @@ use Rattle.eb_arena.specs.declared.links.Side.{Side}
 use Rattle.eb_arena.specs.declared.links.Side.TheVariants as sides
 use Rattle.eb_arena.specs.declared.links.Target.{Target}
 use Rattle.eb_arena.specs.declared.links.Target.TheVariants as targets
-use Rattle.eb_arena.specs.declared.links.Place.{Place}
 use Rattle.eb_arena.specs.declared.links.Place.TheVariants as places
-use Rattle.eb_arena.specs.Links.{opposite, is_nothing}
+use Rattle.eb_arena.specs.Links.{is_nothing}
 use Rattle.eb_arena.specs.Parts.{Parts, element_at, link_at}
-use Rattle.eb_arena.specs.Shape.{Tree, tip, items, items_of, Stands, Split, HasLeaf, IsRoot, root_place, Shape, HasShape, InSome, list_of, list_below}
+use Rattle.eb_arena.specs.Shape.{Tree, tip, items_of, Split, HasLeaf, IsRoot, root_place, HasShape, InSome, list_of, list_below}
 use Rattle.eb_arena.specs.Way.{Step, plug, before, after, Leads}
 use Rattle.eb_arena.proofs.Reading.{list_of_is}
 use Rattle.eb_arena.proofs.Ways.{ItemWay, item_way, LeafWay, leaf_way}
-use Rattle.eb32_walk.specs.Ends.{IsIn, IsTree, IsPlace, AtEntry, AtPlace, end_entry, first_entry, last_entry, first_under, last_under, beyond}
+use Rattle.eb32_walk.specs.Ends.{IsIn, IsTree, IsPlace, AtEntry, AtPlace, end_entry, first_entry, last_entry, first_under, last_under}
 
 -- what hangs on a root, where something does, is a tree
 root_tree_at : (a : Parts) (q : ℕ) (o : Option Tree) → IsRoot a q o → (link_at a q ≡ targets.Nothing → ⊥) → IsTree a (link_at a q)

@@ -1,5 +1,5 @@
 -- What the look-ups make of the part that the descent found.
-use Rattle.std.proofs.Common.{◌≡◌, ◌≢◌, ℕ, ◌<◌, ◌≤◌, ◌⊎◌, inl, inr, List, [], ◌∷◌, ◌++◌, length, Bool, true, false, eqb, leb, filter, refl, sym, ap, ◌∙◌, subst, arith, append_assoc, ne_eqb, eq-eqb}
+use Rattle.std.proofs.Common.{◌≡◌, ℕ, ◌<◌, ◌≤◌, inl, inr, List, [], ◌++◌, length, Bool, true, false, filter, refl, sym, ap, ◌∙◌, subst, arith, ne_eqb, eq-eqb}
 use Rattle.std.specs.Prelude.{Option, Some, None, ◌==◌, nat_le}
 use Rattle.std.proofs.lemmas.Bool.{le-leb, lt-leb, cases_eq, cases_lt}
 use Rattle.std.proofs.lemmas.List.{append-nil}
@@ -10,15 +10,15 @@ use Rattle.eb_arena.specs.declared.links.Target.TheVariants as targets
 use Rattle.eb_arena.specs.declared.links.Place.{Place}
 use Rattle.eb_arena.specs.Links.{index_of, is_leaf}
 use Rattle.eb_arena.specs.Parts.{Parts, element_at}
-use Rattle.eb_arena.specs.Shape.{Tree, tip, fork, items, Keys, Stands, Split, list_of, list_below}
-use Rattle.eb_arena.specs.Way.{Step, plug, before, after, Leads}
+use Rattle.eb_arena.specs.Shape.{Tree, tip, fork, items, Keys, Stands, list_of, list_below}
+use Rattle.eb_arena.specs.Way.{before, after, Leads}
 use Rattle.eb_arena.proofs.Reading.{list_below_is}
 use Rattle.eb_arena.proofs.Ways.{part_split}
 use Rattle.eb32_walk.specs.Ends.{IsTree, IsPlace, AtPlace, first_entry, last_entry}
-use Rattle.eb32_walk.specs.Heads.{AllKeys}
+use Rattle.eb_arena.specs.Shape.{AllKeys}
 use Rattle.eb32_walk.specs.Search.{IsFound, own_key, up_of}
 use Rattle.eb32_walk.proofs.Firsts.{first_of, last_of}
-use Rattle.eb32_walk.proofs.Keyed.{all_items, all_map, filter_none, filter_all}
+use Rattle.eb_arena.proofs.Keyed.{all_items, all_map, filter_none, filter_all}
 use Rattle.eb32_walk.proofs.Up.{somewhere}
 
 pub up_of_is : (a : Parts) (target : Target) (place : Place) (t : Tree) → Stands a target place t → up_of a target ≡ place

@@ -1,12 +1,9 @@
 -- The ends of lists in a row.
-use Rattle.std.proofs.Common.{◌≡◌, ℕ, List, [], ◌∷◌, ◌++◌, reverse, refl, sym, ap, ◌∙◌}
+use Rattle.std.proofs.Common.{◌≡◌, ℕ, List, [], ◌∷◌, ◌++◌, reverse, refl, ap, ◌∙◌}
 use Rattle.std.specs.Prelude.{Option, Some, None}
 use Rattle.std.proofs.lemmas.List.{reverse-append}
 use Rattle.sched_base.specs.KeyedList.{KeyedItem}
-use Rattle.eb_arena.specs.declared.links.Side.{Side}
-use Rattle.eb_arena.specs.declared.links.Side.TheVariants as sides
-use Rattle.eb_arena.specs.Links.{opposite}
-use Rattle.eb32_walk.specs.Ends.{first_entry, last_entry, end_entry}
+use Rattle.eb32_walk.specs.Ends.{first_entry, last_entry}
 
 -- the first list's end, or the second's where there is none
 abbrev pub or_else : Option ℕ → Option ℕ → Option ℕ

@@ -1,7 +1,6 @@
 pub mod Firsts
 pub mod Down
 pub mod Entries
-pub mod Keyed
 pub mod Climbing
 pub mod Seeking
 pub mod Finding

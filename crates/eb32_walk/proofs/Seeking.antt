@@ -1,11 +1,10 @@
 -- The descent by key: what lies before and after the part that it has come to.
-use Rattle.std.proofs.Common.{◌≡◌, ◌≢◌, ℕ, zero, suc, ◌+◌, ◌*◌, ◌/◌, ◌%◌, ◌^◌, ◌-◌, ◌<◌, ◌≤◌, ◌⊎◌, inl, inr, List, [], ◌∷◌, ◌++◌, length, Bool, true, false, eqb, refl, sym, ap, ◌∙◌, subst, arith, append_assoc, eqb-true, eq-eqb}
-use Rattle.std.specs.Prelude.{ℤ, pos, negsuc, Option, Some, None, ◌==◌, if◌then◌else◌}
+use Rattle.std.proofs.Common.{◌≡◌, ◌≢◌, ℕ, ◌+◌, ◌*◌, ◌/◌, ◌%◌, ◌^◌, ◌<◌, ◌≤◌, List, [], ◌∷◌, ◌++◌, length, Bool, true, false, refl, sym, ap, ◌∙◌, subst, arith, append_assoc, eqb-true, eq-eqb}
+use Rattle.std.specs.Prelude.{pos, negsuc, Option, Some, None, ◌==◌, if◌then◌else◌}
 use Rattle.std.specs.Option.{unwrap_or}
 use Rattle.std.proofs.lemmas.List.{append-nil}
 use Rattle.std.proofs.lemmas.Bool.{eqb-false}
 use Rattle.std.proofs.lemmas.Nat.{pow_pos}
-use Rattle.sched_base.specs.KeyedList.{KeyedItem}
 use Rattle.eb_arena.specs.declared.links.Side.{Side}
 use Rattle.eb_arena.specs.declared.links.Side.TheVariants as sides
 use Rattle.eb_arena.specs.declared.links.Target.{Target}
@@ -15,14 +14,14 @@ use Rattle.eb_arena.specs.declared.links.Place.TheVariants as places
 use Rattle.eb_arena.specs.declared.element.Element.{Element}
 use Rattle.eb_arena.specs.Links.{index_of, side_number}
 use Rattle.eb_arena.specs.Parts.{Parts, element_at, link_at, child}
-use Rattle.eb_arena.specs.Shape.{Tree, tip, fork, items, items_of, Keys, HasLeaf, IsBit, Stands, Split, DividesAt, Equals, IsRoot, root_place, HasShape, Shape, list_of}
-use Rattle.eb_arena.specs.Way.{Step, from_left, from_right, fill, plug, before, after, Leads}
+use Rattle.eb_arena.specs.Shape.{Tree, tip, fork, items, items_of, Keys, IsBit, Stands, Split, DividesAt, Equals, IsRoot, root_place, HasShape, list_of}
+use Rattle.eb_arena.specs.Way.{Step, from_left, from_right, plug, before, after, Leads}
 use Rattle.eb_arena.proofs.Trees.{Has, keys_at, keys_map, bit_rank, tree_rank, falls_left, falls_right, lt_by_div, div_le_div}
 use Rattle.eb_arena.proofs.Reading.{list_of_is}
 use Rattle.eb_arena.proofs.Ways.{part_split, leaf_key}
-use Rattle.eb32_walk.specs.Heads.{AllKeys}
-use Rattle.eb32_walk.specs.Search.{IsFound, own_key, up_of, turn_of}
-use Rattle.eb32_walk.proofs.Keyed.{all-append, all_items}
+use Rattle.eb_arena.specs.Shape.{AllKeys}
+use Rattle.eb32_walk.specs.Search.{IsFound, own_key, turn_of}
+use Rattle.eb_arena.proofs.Keyed.{all-append, all_items}
 use Rattle.eb32_walk.proofs.Climbing.{greater}
 use Rattle.eb32_walk.proofs.Down.{target_rank, target_rank_is, not_nothing}
 

@@ -1,5 +1,5 @@
 -- Whether two sides are the same.
-use Rattle.std.proofs.Common.{◌≡◌, Bool, true, false, not, refl, sym, ◌∙◌}
+use Rattle.std.proofs.Common.{◌≡◌, Bool, true, false, not, sym, ◌∙◌}
 use denote.Enum.Bare.{sameb}
 use Rattle.eb_arena.specs.contracts.links.Side.{the_type}
 use Rattle.eb_arena.specs.declared.links.Side.{Side}

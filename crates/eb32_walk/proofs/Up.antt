@@ -1,6 +1,6 @@
 -- One step up from a place, and the turn onto a node's other side.
-use Rattle.std.proofs.Common.{◌≡◌, ◌≢◌, ℕ, zero, suc, ◌+◌, ◌-◌, ◌<◌, ◌≤◌, List, [], ◌∷◌, ◌++◌, length, refl, sym, ap, ◌∙◌, subst, arith, ltb, cond, lt-ltb, le-ltb}
-use Rattle.std.specs.Prelude.{ℤ, pos, negsuc, Option, Some, None}
+use Rattle.std.proofs.Common.{◌≡◌, ◌≢◌, ℕ, ◌+◌, ◌-◌, ◌<◌, ◌≤◌, List, [], ◌∷◌, length, refl, sym, ap, ◌∙◌, subst, arith, ltb, cond, lt-ltb, le-ltb}
+use Rattle.std.specs.Prelude.{Some, None}
 use Rattle.sched_base.specs.KeyedList.{KeyedItem}
 use Rattle.eb_arena.specs.declared.links.Side.{Side}
 use Rattle.eb_arena.specs.declared.links.Side.TheVariants as sides
@@ -9,7 +9,7 @@ use Rattle.eb_arena.specs.declared.links.Place.{Place}
 use Rattle.eb_arena.specs.declared.links.Place.TheVariants as places
 use Rattle.eb_arena.specs.Links.{place_index, place_side, opposite}
 use Rattle.eb_arena.specs.Parts.{Parts, element_at, child}
-use Rattle.eb_arena.specs.Shape.{Tree, tip, fork, items, Stands, Split, IsBit, root_place, list_below}
+use Rattle.eb_arena.specs.Shape.{Tree, fork, items, Stands, Split, list_below}
 use Rattle.eb_arena.specs.Way.{Step, from_left, from_right, fill, plug, before, after, Leads}
 use Rattle.eb_arena.proofs.Trees.{bit_rank, tree_rank, falls_left, falls_right, rank_fits}
 use Rattle.eb_arena.proofs.Reading.{list_below_is}

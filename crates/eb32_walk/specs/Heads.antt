@@ -1,15 +1,10 @@
 -- The head of an entry's key (docs/TREES.md, "Walks").
-use Rattle.std.specs.Prelude.{◌≡◌, ℕ, ◌<◌, List, [], ◌∷◌, ◌++◌}
+use Rattle.std.specs.Prelude.{◌≡◌, ℕ, ◌<◌, List, ◌++◌}
 use Rattle.sched_base.specs.KeyedList.{KeyedItem}
 use Rattle.eb_arena.specs.declared.links.Place.{Place}
 use Rattle.eb_arena.specs.Parts.{Parts}
-use Rattle.eb_arena.specs.Shape.{Tree, Split}
+use Rattle.eb_arena.specs.Shape.{Tree, Split, AllKeys}
 use Rattle.eb_arena.specs.Way.{Step, plug, before, after, Leads}
-
--- each key in the list is as P says
-abbrev pub AllKeys : (ℕ → Type 0) → List KeyedItem → Type 0
-AllKeys P [] = Unit {0}
-AllKeys P (x ∷ xs) = P x.key × AllKeys P xs
 
 -- at the place hangs all of key k that is in xs, an item of this key, and ys
 pub record IsHead (a : Parts) (place : Place) (xs : List KeyedItem) (k : ℕ) (ys : List KeyedItem) : Type 0 where

@@ -8,9 +8,8 @@ use Rattle.eb_arena.specs.declared.links.Place.{Place}
 use Rattle.eb_arena.specs.declared.links.Place.TheVariants as places
 use Rattle.eb_arena.specs.Links.{index_of}
 use Rattle.eb_arena.specs.Parts.{Parts, element_at}
-use Rattle.eb_arena.specs.Shape.{Tree, items, Keys, Stands, Split, list_of}
+use Rattle.eb_arena.specs.Shape.{Tree, items, Keys, AllKeys, Stands, Split, list_of}
 use Rattle.eb_arena.specs.Way.{Step, plug, before, after, Leads}
-use Rattle.eb32_walk.specs.Heads.{AllKeys}
 
 -- the key of the entry whose leaf or node is the target
 abbrev pub own_key : Parts → Target → ℕ

@@ -1,10 +1,10 @@
 -- Trees by themselves: their keys, and that bits fall on the way down.
-use Rattle.std.proofs.Common.{◌≡◌, ℕ, zero, suc, ◌+◌, ◌-◌, ◌*◌, ◌/◌, ◌^◌, ◌<◌, ◌≤◌, ◌⊎◌, inl, inr, refl, sym, ap, ◌∙◌, subst, arith}
+use Rattle.std.proofs.Common.{◌≡◌, ℕ, zero, ◌+◌, ◌-◌, ◌*◌, ◌/◌, ◌^◌, ◌<◌, ◌≤◌, ◌⊎◌, inl, inr, refl, sym, ap, ◌∙◌, subst, arith}
 use Rattle.std.specs.Prelude.{ℤ, pos, negsuc}
 use Rattle.std.proofs.lemmas.Bool.{cases_lt}
 use Rattle.std.proofs.lemmas.Nat.{pow-add, le-div}
 use Rattle.std.proofs.Math.Nat.{div-div-eq-div-mul, mul-div-le, div-mul-le_self}
-use Rattle.eb_arena.specs.Shape.{Tree, tip, fork, Keys, HasLeaf, IsBit, IsBelow, DividesAt, Divides, Split}
+use Rattle.eb_arena.specs.Shape.{Tree, tip, fork, Keys, IsBelow, DividesAt, Split}
 
 -- the key stands in the tree
 abbrev pub Has : ℕ → Tree → Type 0
@@ -54,10 +54,10 @@ falls_pos b c (fork i (pos d) l r) h s =
     elim (cases_lt d b) [
       | inl lt ↦ omega arith
       | inr le ↦
-        let v : DividesAt d l r = s.2 in
-        let x : (k : ℕ) × Has k l = some_key l in
-        let y : (k : ℕ) × Has k r = some_key r in
-        absurd (not_both b d c v.q x.0 y.0 le (keys_at (λ k. k / 2 ^ b ≡ c) l x.0 h.0 x.1) (keys_at (λ k. k / 2 ^ b ≡ c) r y.0 h.1 y.1) (keys_at (λ k. k / 2 ^ d ≡ 2 * v.q) l x.0 v.left x.1) (keys_at (λ k. k / 2 ^ d ≡ 2 * v.q + 1) r y.0 v.right y.1))
+          let v : DividesAt d l r = s.2 in
+          let x : (k : ℕ) × Has k l = some_key l in
+          let y : (k : ℕ) × Has k r = some_key r in
+          absurd (not_both b d c v.q x.0 y.0 le (keys_at (λ k. k / 2 ^ b ≡ c) l x.0 h.0 x.1) (keys_at (λ k. k / 2 ^ b ≡ c) r y.0 h.1 y.1) (keys_at (λ k. k / 2 ^ d ≡ 2 * v.q) l x.0 v.left x.1) (keys_at (λ k. k / 2 ^ d ≡ 2 * v.q + 1) r y.0 v.right y.1))
     ]
 
 falls_neg : (n : ℕ) (t : Tree) → IsBelow n t → tree_rank t < n + 1

@@ -1,3 +1,4 @@
+pub mod Laws
 pub mod LinkNumbers
 pub mod Links
 pub mod Parts

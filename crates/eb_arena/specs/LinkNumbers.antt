@@ -1,7 +1,6 @@
 -- A link's number gives the link back (docs/TREES.md, "Links").
-use Rattle.std.specs.Prelude.{◌≡◌, ℕ, ◌+◌, ◌*◌, ◌/◌, ◌%◌, Bool, true, false, ◌==◌, if◌then◌else◌}
-use Rattle.std.proofs.Common.{arith, refl, eqb-true, inl, inr}
-use Rattle.std.proofs.lemmas.Bool.{cases_eq}
+use Rattle.std.specs.Prelude.{◌≡◌, ℕ, ◌%◌, Bool, true, false, ◌==◌}
+use Rattle.std.proofs.Common.{arith, refl, eqb-true}
 use Rattle.eb_arena.specs.Links.{target_of, link_number, place_of, up_number}
 
 by_tests_link : (n : ℕ) (m p : Bool) → (n == 4294967295) ≡ m → (n % 2 == 0) ≡ p → link_number (target_of n) ≡ n

@@ -2,7 +2,6 @@
 use Rattle.std.specs.Prelude.{◌≡◌, ◌≢◌, ℕ, zero, suc, ◌+◌, ◌*◌, ◌/◌, ◌^◌, ◌<◌, ℤ, pos, negsuc, List, [], ◌∷◌, ◌++◌, length, ◌⊎◌, Option, Some, None}
 use Rattle.std.specs.Option.{IsSomeAnd}
 use Rattle.sched_base.specs.KeyedList.{KeyedItem}
-use Rattle.eb_arena.specs.declared.links.Side.{Side}
 use Rattle.eb_arena.specs.declared.links.Side.TheVariants as sides
 use Rattle.eb_arena.specs.declared.links.Target.{Target}
 use Rattle.eb_arena.specs.declared.links.Target.TheVariants as targets
@@ -24,6 +23,11 @@ items (fork i b l r) = items l ++ items r
 abbrev pub Keys : (ℕ → Type 0) → Tree → Type 0
 Keys P (tip entry key) = P key
 Keys P (fork i b l r) = Keys P l × Keys P r
+
+-- each key in the list is as P says
+abbrev pub AllKeys : (ℕ → Type 0) → List KeyedItem → Type 0
+AllKeys P [] = Unit {0}
+AllKeys P (x ∷ xs) = P x.key × AllKeys P xs
 
 -- the entry has a leaf in the tree
 abbrev pub HasLeaf : ℕ → Tree → Type 0

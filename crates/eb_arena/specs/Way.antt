@@ -5,7 +5,7 @@ use Rattle.eb_arena.specs.declared.links.Side.TheVariants as sides
 use Rattle.eb_arena.specs.declared.links.Place.{Place}
 use Rattle.eb_arena.specs.declared.links.Place.TheVariants as places
 use Rattle.eb_arena.specs.Parts.{Parts, element_at}
-use Rattle.eb_arena.specs.Shape.{Tree, tip, fork, items, Stands, root_place}
+use Rattle.eb_arena.specs.Shape.{Tree, fork, items, Stands, root_place}
 
 -- one step up: a node's index and bit, and the tree on its other side
 pub data Step : Type 0 where

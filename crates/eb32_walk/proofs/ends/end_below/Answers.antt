@@ -1,5 +1,5 @@
-use Rattle.std.proofs.Common.{◌≡◌, sym, ◌∙◌}
-use Rattle.eb32_walk.proofs.Down.{EndStep, EndTurn, EndFound, end_step, end_turn, end_found, node_tree, some_target}
+use Rattle.std.proofs.Common.{◌∙◌}
+use Rattle.eb32_walk.proofs.Down.{EndTurn, EndFound, end_step, end_turn, end_found, node_tree, some_target}
 use Rattle.eb32_walk.proofs.ends.end_below.Goals as goal
 
 pub element-requires : goal.element-requires

@@ -1,9 +1,8 @@
 use Rattle.std.proofs.Common.{◌≡◌, ◌<◌, ◌≤◌, length, sym, ap, ◌∙◌, arith}
-use Rattle.eb_arena.specs.declared.links.Target.{Target}
-use Rattle.eb_arena.specs.Links.{place_index, place_side}
-use Rattle.eb_arena.specs.Parts.{Parts, element_at, child}
+use Rattle.eb_arena.specs.Links.{place_index}
+use Rattle.eb_arena.specs.Parts.{element_at, child}
 use Rattle.eb_arena.specs.Shape.{list_below}
-use Rattle.eb32_walk.specs.Ends.{IsPlace, end_entry}
+use Rattle.eb32_walk.specs.Ends.{end_entry}
 use Rattle.eb32_walk.proofs.Sides.{sides_differ, sides_same}
 use Rattle.eb32_walk.proofs.Up.{reached, somewhere, climbs, still_on-up, turned, turn_finds, root_finds}
 use Rattle.eb32_walk.proofs.ends.neighbour.Goals as goal

@@ -1,4 +1,4 @@
-use Rattle.std.proofs.Common.{◌≡◌, ◌<◌, ◌≤◌, length, Bool, true, false, sym, ap, ◌∙◌, arith, subst}
+use Rattle.std.proofs.Common.{◌≡◌, ◌<◌, ◌≤◌, length, true, sym, ap, ◌∙◌, arith, subst}
 use Rattle.eb_arena.specs.Links.{place_index}
 use Rattle.eb_arena.specs.Parts.{element_at, is_negative}
 use Rattle.eb32_walk.specs.Ends.{IsPlace}

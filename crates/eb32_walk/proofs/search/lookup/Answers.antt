@@ -1,5 +1,4 @@
-use Rattle.std.proofs.Common.{◌≡◌, ◌<◌, ◌≤◌, sym, ap, ◌∙◌, subst, arith}
-use Rattle.eb32_walk.specs.Search.{own_key}
+use Rattle.std.proofs.Common.{sym, ◌∙◌}
 use Rattle.eb32_walk.proofs.Finding.{found_tree, lookup_yes, lookup_no}
 use Rattle.eb32_walk.proofs.search.lookup.Goals as goal
 

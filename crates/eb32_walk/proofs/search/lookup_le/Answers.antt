@@ -1,5 +1,4 @@
-use Rattle.std.proofs.Common.{◌≡◌, ◌<◌, ◌≤◌, sym, ap, ◌∙◌, subst, arith}
-use Rattle.eb32_walk.specs.Search.{own_key}
+use Rattle.std.proofs.Common.{arith}
 use Rattle.eb32_walk.proofs.Finding.{found_tree, found_place, le_in_part, le_before_part}
 use Rattle.eb32_walk.proofs.search.lookup_le.Goals as goal
 

@@ -1,5 +1,4 @@
-use Rattle.std.proofs.Common.{◌≡◌, List, [], sym, ap, ◌∙◌, subst}
-use Rattle.eb_arena.specs.Parts.{element_at}
+use Rattle.std.proofs.Common.{sym, ap, ◌∙◌, subst}
 use Rattle.eb_arena.specs.Shape.{IsBit, list_below}
 use Rattle.eb32_walk.proofs.Entries.{nothing_is, something_is}
 use Rattle.eb32_walk.proofs.Seeking.{narrow_start, narrow_turn, node_has, found_node, found_leaf}

@@ -1,5 +1,4 @@
-use Rattle.std.proofs.Common.{◌≡◌, sym, ap, ◌∙◌, subst}
-use Rattle.eb_arena.specs.Parts.{link_at}
+use Rattle.std.proofs.Common.{sym, ap, ◌∙◌, subst}
 use Rattle.eb_arena.specs.Shape.{list_below}
 use Rattle.eb32_walk.specs.Ends.{IsTree, end_entry}
 use Rattle.eb32_walk.proofs.Entries.{root_tree, empty_end, nothing_is, something_is}

@@ -1,4 +1,4 @@
-use Rattle.std.proofs.Common.{◌≡◌, sym, ap, ◌∙◌}
+use Rattle.std.proofs.Common.{ap, ◌∙◌}
 use Rattle.eb32_walk.proofs.Entries.{next_same, next_other, next_no_dup}
 use Rattle.eb32_walk.proofs.walks.next_dup.Goals as goal
 

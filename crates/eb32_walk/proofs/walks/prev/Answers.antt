@@ -1,5 +1,4 @@
-use Rattle.std.proofs.Common.{◌≡◌, sym, ap, ◌∙◌, subst}
-use Rattle.eb_arena.specs.Parts.{element_at}
+use Rattle.std.proofs.Common.{sym, ap, subst}
 use Rattle.eb32_walk.specs.Ends.{IsPlace}
 use Rattle.eb32_walk.proofs.Entries.{entry_place, before_entry}
 use Rattle.eb32_walk.proofs.walks.prev.Goals as goal

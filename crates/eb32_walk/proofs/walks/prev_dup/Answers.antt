@@ -1,4 +1,4 @@
-use Rattle.std.proofs.Common.{◌≡◌, sym, ap, ◌∙◌}
+use Rattle.std.proofs.Common.{ap, ◌∙◌}
 use Rattle.eb32_walk.proofs.Entries.{prev_same, prev_other, prev_no_dup}
 use Rattle.eb32_walk.proofs.walks.prev_dup.Goals as goal
 

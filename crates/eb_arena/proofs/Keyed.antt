@@ -1,8 +1,7 @@
 -- Lists whose keys are all alike, and what filters make of them.
-use Rattle.std.proofs.Common.{◌≡◌, ℕ, ◌+◌, ◌<◌, ◌≤◌, ◌⊎◌, inl, inr, List, [], ◌∷◌, ◌++◌, Bool, true, false, cond, not, eqb, filter, refl, sym, ap, ◌∙◌, subst, arith}
+use Rattle.std.proofs.Common.{◌≡◌, ℕ, List, [], ◌∷◌, ◌++◌, Bool, true, false, cond, filter, refl, ap, ◌∙◌}
 use Rattle.sched_base.specs.KeyedList.{KeyedItem}
-use Rattle.eb_arena.specs.Shape.{Tree, tip, fork, items, Keys}
-use Rattle.eb32_walk.specs.Heads.{AllKeys}
+use Rattle.eb_arena.specs.Shape.{Tree, tip, fork, items, Keys, AllKeys}
 
 pub all-append : (P : ℕ → Type 0) (xs ys : List KeyedItem) → AllKeys P xs → AllKeys P ys → AllKeys P (xs ++ ys)
 all-append P [] ys h g = g
