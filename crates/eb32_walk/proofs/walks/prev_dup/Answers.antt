@@ -1,0 +1,15 @@
+use Rattle.std.proofs.Common.{ap, ◌∙◌}
+use Rattle.eb32_walk.proofs.Entries.{prev_same, prev_other, prev_no_dup}
+use Rattle.eb32_walk.proofs.walks.prev_dup.Goals as goal
+
+pub returns-in_err-found-clause-answer : goal.returns-in_err-found-clause-answer
+returns-in_err-found-clause-answer c q k xs ys f is =
+    c.from_residual.ensures ∙ prev_no_dup c.args.arena.now c.args.entry c.in_err-found.ensures.answer q k xs ys f is
+
+pub returns-then-element-clause-answer : goal.returns-then-element-clause-answer
+returns-then-element-clause-answer c =
+    prev_same c.args.arena.now c.args.entry c.in_ok-found.found _ _ c.requires.shape c.in_ok-found.ensures.answer (ap (λ e. e.key) c.element.ensures) (ap (λ e. e.key) c.element-2.ensures) c.if-element.true
+
+pub returns-else-element-clause-answer : goal.returns-else-element-clause-answer
+returns-else-element-clause-answer c =
+    prev_other c.args.arena.now c.args.entry c.in_ok-found.found _ _ c.requires.shape c.in_ok-found.ensures.answer (ap (λ e. e.key) c.element.ensures) (ap (λ e. e.key) c.element-2.ensures) c.if-element.false

@@ -1,0 +1,43 @@
+-- What a descent by key finds (docs/TREES.md, "Look-ups").
+use Rattle.std.specs.Prelude.{◌≡◌, ℕ, ◌/◌, ◌%◌, ◌^◌, ◌<◌, ◌==◌, if◌then◌else◌, ℤ, pos, negsuc, List, ◌++◌, Option, Some, None}
+use Rattle.eb_arena.specs.declared.links.Side.{Side}
+use Rattle.eb_arena.specs.declared.links.Side.TheVariants as sides
+use Rattle.eb_arena.specs.declared.links.Target.{Target}
+use Rattle.eb_arena.specs.declared.links.Target.TheVariants as targets
+use Rattle.eb_arena.specs.declared.links.Place.{Place}
+use Rattle.eb_arena.specs.declared.links.Place.TheVariants as places
+use Rattle.eb_arena.specs.Links.{index_of}
+use Rattle.eb_arena.specs.Parts.{Parts, element_at}
+use Rattle.eb_arena.specs.Shape.{Tree, items, Keys, AllKeys, Stands, Split, list_of}
+use Rattle.eb_arena.specs.Way.{Step, plug, before, after, Leads}
+
+-- the key of the entry whose leaf or node is the target
+abbrev pub own_key : Parts → Target → ℕ
+own_key a target = (element_at a (index_of target)).key
+
+-- where a target's element says that it hangs
+abbrev pub up_of : Parts → Target → Place
+up_of a targets.Nothing = places.Nowhere
+up_of a (targets.Leaf i) = (element_at a i).leaf_p
+up_of a (targets.Node i) = (element_at a i).node_p
+
+-- the side of a node, of its bit and the key of its entry, to which a key belongs; none where they differ above the bit
+abbrev pub turn_of : ℕ → ℤ → ℕ → Option Side
+turn_of own (pos b) key =
+    if key / 2 ^ b / 2 == own / 2 ^ b / 2 then (if key / 2 ^ b % 2 == 0 then Some sides.Left else Some sides.Right) else None
+turn_of own (negsuc n) key = None
+
+-- a part of a root's tree, all of whose keys lie as its own key does, with only smaller keys before it and only greater ones after it
+pub record IsFound (a : Parts) (root key : ℕ) (target : Target) : Type 0 where
+  pub place : Place
+  pub way : List Step
+  pub tree : Tree
+  pub leads : Leads a root place way
+  pub stands : Stands a target place tree
+  pub split : Split (plug way tree)
+  pub list_is : list_of a root ≡ before way ++ (items tree ++ after way)
+  pub low : AllKeys (λ x. x < key) (before way)
+  pub high : AllKeys (λ x. key < x) (after way)
+  pub same : own_key a target ≡ key → Keys (λ x. x ≡ key) tree
+  pub less : own_key a target < key → Keys (λ x. x < key) tree
+  pub more : key < own_key a target → Keys (λ x. key < x) tree

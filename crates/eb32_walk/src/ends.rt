@@ -1,0 +1,39 @@
+//! The two loops of every walk: down to an end of a tree, and up to the next tree at a side.
+
+ghost use Rattle.std.specs.Prelude.{◌≡◌, ◌≢◌, ℕ, ◌<◌, Some, IfSome};
+ghost use Rattle.eb_arena.specs.Links.{opposite};
+ghost use Rattle.eb_arena.specs.Parts.{element_at};
+ghost use Rattle.eb_arena.specs.Shape.{list_below};
+ghost use Rattle.eb32_walk.specs.Ends.{IsIn, IsTree, IsPlace, AtPlace, end_entry, beyond};
+
+use eb_arena::{Arena, Link, Side, Target, Up};
+
+/// The entry at an end of the tree below a link.
+pub(crate) fn end_below(arena: &Arena, link: Link, side: Side) -> u32
+    requires { IsTree arena.now link }
+    ensures answer { end_entry side (list_below arena.now link) ≡ Some result }
+    ensures in_tree { IsIn arena.now result }
+{
+    let mut part = link;
+    while let Target::Node(index) = part.target() {
+        part = arena.element(index).child(side);
+    }
+    part.index()
+}
+
+/// The entry next to a place on a side of it; none where the place is at that end of the tree.
+pub(crate) fn neighbour(arena: &Arena, up: Up, side: Side) -> Option<u32>
+    requires { IsPlace arena.now up }
+    ensures answer { AtPlace arena.now up (λ w. result ≡ end_entry (opposite side) (beyond side w)) }
+    ensures in_tree { IfSome result (IsIn arena.now) }
+{
+    let mut place = up;
+    while place.index() < arena.entries() {
+        let element = arena.element(place.index());
+        if place.side() != side {
+            return Some(end_below(arena, element.child(side), side.opposite()));
+        }
+        place = element.node_p;
+    }
+    None
+}

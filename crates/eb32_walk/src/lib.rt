@@ -1,0 +1,10 @@
+//! Walks over the trees of an arena and look-ups by key. Each answers by the list of the root.
+#![tactic(auto)]
+
+mod ends;
+mod heads;
+mod search;
+mod walks;
+
+pub use search::{lookup, lookup_ge, lookup_le};
+pub use walks::{first, last, next, next_dup, next_unique, prev, prev_dup, prev_unique};

@@ -1,0 +1,118 @@
+//! Look-ups by key.
+
+ghost use Rattle.std.specs.Prelude.{◌≡◌, ◌<◌, ◌==◌, nat_le, [], filter, length, IfSome, MatchOption};
+ghost use Rattle.eb_arena.specs.Shape.{HasShape, IsBit, list_of};
+ghost use Rattle.eb32_walk.specs.Ends.{IsIn, IsTree, first_entry, last_entry};
+ghost use Rattle.eb32_walk.specs.Search.{IsFound, own_key, turn_of, up_of};
+
+use crate::ends::{end_below, neighbour};
+use eb_arena::{Arena, Element, Link, Side, Target, Up};
+
+/// The side of a node to which the key belongs; none where it differs from the node's keys above
+/// the node's bit, or where the node's keys are equal.
+fn turn(node: &Element, key: u32) -> Option<Side>
+    requires { IsBit node.now.bit }
+    ensures { result ≡ turn_of node.now.key node.now.bit key }
+{
+    if node.has_equal_keys() {
+        return None;
+    }
+    let height = node.bit as u32;
+    let here = key >> height;
+    if here / 2 != (node.key >> height) / 2 {
+        return None;
+    }
+    if here % 2 == 0 {
+        Some(Side::Left)
+    } else {
+        Some(Side::Right)
+    }
+}
+
+/// Goes down from a root as long as the key agrees with what is found. All items before the part
+/// that it ends at have smaller keys, and all items after it have greater ones; none where the
+/// root's list is empty.
+fn seek(arena: &Arena, root: u32, key: u32) -> Option<Link>
+    requires shape { HasShape arena.now }
+    requires exists { root < length arena.now.links }
+    ensures { MatchOption result (list_of arena.now root ≡ []) (IsFound arena.now root key) }
+{
+    let mut part = arena.root(root);
+    if part.is_none() {
+        return None;
+    }
+    while let Target::Node(index) = part.target() {
+        let node = arena.element(index);
+        let Some(side) = turn(&node, key) else {
+            return Some(part);
+        };
+        part = node.child(side);
+    }
+    Some(part)
+}
+
+/// Where a part of a tree hangs.
+fn place_of(arena: &Arena, part: Link) -> Up
+    requires { IsTree arena.now part }
+    ensures { result ≡ up_of arena.now part }
+{
+    let element = arena.element(part.index());
+    if part.is_leaf() {
+        element.leaf_p
+    } else {
+        element.node_p
+    }
+}
+
+/// The key of the entry whose leaf or node is the part.
+fn key_at(arena: &Arena, part: Link) -> u32
+    requires { IsTree arena.now part }
+    ensures { result ≡ own_key arena.now part }
+{
+    arena.element(part.index()).key
+}
+
+/// The first entry with this key; none where no item has it.
+pub fn lookup(arena: &Arena, root: u32, key: u32) -> Option<u32>
+    requires shape { HasShape arena.now }
+    requires exists { root < length arena.now.links }
+    ensures answer { result ≡ first_entry (filter (λ x. x.key == key) (list_of arena.now root)) }
+    ensures in_tree { IfSome result (IsIn arena.now) }
+{
+    let part = seek(arena, root, key)?;
+    if key_at(arena, part) == key {
+        Some(end_below(arena, part, Side::Left))
+    } else {
+        None
+    }
+}
+
+/// The first entry with a key of at least this one; none where there is none.
+pub fn lookup_ge(arena: &Arena, root: u32, key: u32) -> Option<u32>
+    requires shape { HasShape arena.now }
+    requires exists { root < length arena.now.links }
+    ensures answer { result ≡ first_entry (filter (λ x. nat_le key x.key) (list_of arena.now root)) }
+    ensures in_tree { IfSome result (IsIn arena.now) }
+{
+    let part = seek(arena, root, key)?;
+    if key <= key_at(arena, part) {
+        Some(end_below(arena, part, Side::Left))
+    } else {
+        neighbour(arena, place_of(arena, part), Side::Right)
+    }
+}
+
+/// The last entry with a key of at most this one; none where there is none.
+pub fn lookup_le(arena: &Arena, root: u32, key: u32) -> Option<u32>
+    requires shape { HasShape arena.now }
+    requires exists { root < length arena.now.links }
+    ensures answer { result ≡ last_entry (filter (λ x. nat_le x.key key) (list_of arena.now root)) }
+    ensures in_tree { IfSome result (IsIn arena.now) }
+{
+    let part = seek(arena, root, key)?;
+    if key_at(arena, part) <= key {
+        Some(end_below(arena, part, Side::Right))
+    } else {
+        neighbour(arena, place_of(arena, part), Side::Left)
+    }
+}

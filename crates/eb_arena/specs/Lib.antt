@@ -1,0 +1,6 @@
+pub mod Laws
+pub mod LinkNumbers
+pub mod Links
+pub mod Parts
+pub mod Shape
+pub mod Way
