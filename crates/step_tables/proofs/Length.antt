@@ -108,7 +108,7 @@ read_within limit bytes s long e =
     let one : length (pieces 10 back) ≡ 1 = omega (arith, ends.few) in
     let some : length back ≡ length bytes - limit = length-drop limit bytes in
     let open_ : last_is_empty (pieces 10 bytes) ≡ false =
-        subst (λ bs. last_is_empty (pieces 10 bs) ≡ false) whole (open_end front back (uncut back one) (not_empty back (omega arith))) in
+    subst (λ bs. last_is_empty (pieces 10 bs) ≡ false) whole (open_end front back (uncut back one) (not_empty back (omega arith))) in
     let last = ends.last in
     cc
 

@@ -18,3 +18,6 @@ mod words;
 pub use faults::{ScriptError, ScriptFault};
 pub use lists::{Actions, Events, Name, Rows, Tasks};
 pub use tables::{Action, Event, Expiry, Kind, Row, Script, TaskDef};
+
+#[cfg(test)]
+mod tests;
