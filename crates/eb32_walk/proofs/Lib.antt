@@ -6,3 +6,4 @@ pub mod Seeking
 pub mod Finding
 pub mod Sides
 pub mod Up
+pub mod Worked

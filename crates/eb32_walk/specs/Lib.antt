@@ -1,3 +1,4 @@
 pub mod Ends
 pub mod Heads
 pub mod Search
+pub mod Worked

@@ -4,6 +4,8 @@
 mod ends;
 mod heads;
 mod search;
+#[cfg(test)]
+mod tests;
 mod walks;
 
 pub use search::{lookup, lookup_ge, lookup_le};
