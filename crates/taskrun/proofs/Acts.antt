@@ -1,5 +1,5 @@
 -- The run of the one task is lawful: its actions, its end, and the whole of it.
-use Rattle.std.proofs.Common.{◌≡◌, ◌≢◌, ℕ, zero, suc, ◌+◌, ◌-◌, ◌^◌, ◌<◌, ◌≤◌, ◌==◌, ◌||◌, not, Bool, true, false, if◌then◌else◌, ℤ, pos, List, [], ◌∷◌, ◌++◌, refl, sym, ◌∙◌, ap, subst, arith}
+use Rattle.std.proofs.Common.{◌≡◌, ℕ, ◌+◌, ◌-◌, ◌^◌, ◌<◌, ◌≤◌, ◌==◌, ◌||◌, not, Bool, true, false, if◌then◌else◌, ℤ, pos, List, [], ◌∷◌, refl, sym, subst, arith}
 use Rattle.std.specs.List.{AllByRecursion}
 use Rattle.sched_base.specs.declared.names.TaskId.{TaskId}
 use Rattle.queue_model.specs.RunList.{RunItem}
@@ -14,12 +14,12 @@ use Rattle.task_machine.specs.declared.task.Place.TheVariants as places
 use Rattle.task_machine.specs.declared.calls.Call.TheVariants as calls
 use Rattle.task_machine.specs.declared.calls.Entry.{Entry}
 use Rattle.task_machine.specs.Step.{Allowed, reply_of}
-use Rattle.run_model.specs.Parts.{Part, Nothing, Then, Either, Each}
+use Rattle.run_model.specs.Parts.{Part, Nothing, Either, Each}
 use Rattle.run_model.specs.Book.{Book, row_of, queued as queue, dropped, row_ended}
 use Rattle.run_model.specs.Tables.{call_of}
-use Rattle.run_model.specs.Turn.{Acts, Hands, Returns, Retires, Drops, RunsRow, RunOf}
-use Rattle.taskrun.specs.Play.{worker, task, World, made, replied, ended, ended_as, acted_all, ran, ran_as}
-use Rattle.taskrun.specs.Stands.{at, one, Stands, IsAction, Phase, rests, waits, boxed, is_over, place_in, queued_in, Settled}
+use Rattle.run_model.specs.Turn.{Acts, Hands, Returns, Drops, RunsRow, RunOf}
+use Rattle.taskrun.specs.Play.{worker, task, World, made, ended, acted_all, ran}
+use Rattle.taskrun.specs.Stands.{at, one, IsAction, rests, waits, is_over, Settled}
 use Rattle.taskrun.proofs.OneTask.{is_task_id, not_zero}
 use Rattle.taskrun.proofs.Went.{entry_of, Went, went_then, went_quiet, went_asks, went_makes, went_from, went_queue}
 
@@ -168,8 +168,8 @@ unfolding ended
 drops f T count pending true takes n entries few = record {
   ends = _;
   went = went_asks (calls.DropRun task) _ _ _ _ tt
-    (record { named = refl; fit = refl; room = tt; reply = refl })
-    (went_makes (calls.Retire task) (λ reply. dropped 0) _ _ (book count []) tt (retire_killed (not (pending == 0)) pending takes (made (calls.DropRun task) (world (places.Runs worker) pending true takes false entries)) refl) refl refl);
+      (record { named = refl; fit = refl; room = tt; reply = refl })
+      (went_makes (calls.Retire task) (λ reply. dropped 0) _ _ (book count []) tt (retire_killed (not (pending == 0)) pending takes (made (calls.DropRun task) (world (places.Runs worker) pending true takes false entries)) refl) refl refl);
   settled = settled_gone _ n refl refl;
   book_for = record { count = count; key = pos 0; is = refl };
 }
@@ -187,13 +187,13 @@ rows_end : (f : Form) (T count takes n : ℕ) (w : World) → (acted : Acted f T
 rows_end f T count takes n w acted few =
     let v = acted_all f.actions w in
     let out : Outcome (Drops (script_of_form f) worker T 0) v (book count []) (ended v) n =
-        subst (λ v. Outcome (Drops (script_of_form f) worker T 0) v (book count []) (ended v) n) (sym acted.is)
-        (drops f T count acted.pending acted.killed takes n acted.entries few) in
+    subst (λ v. Outcome (Drops (script_of_form f) worker T 0) v (book count []) (ended v) n) (sym acted.is)
+    (drops f T count acted.pending acted.killed takes n acted.entries few) in
     let quiet = went_quiet (row_ended T 0 (row_of_form f)) v v (book count []) refl refl in
     record {
       ends = out.ends;
       went = went_then w v (ended v) (book count []) (book count []) out.ends acted.went
-        (went_then v v (ended v) (book count []) (book count []) out.ends quiet out.went);
+          (went_then v v (ended v) (book count []) (book count []) out.ends quiet out.went);
       settled = out.settled;
       book_for = out.book_for;
     }
@@ -204,8 +204,8 @@ unfolding ran
 runs f T count pending true takes n queued entries ok few room = record {
   ends = _;
   went = went_asks (calls.Take task) _ _ _ _ tt
-    (record { named = refl; fit = refl; room = omega arith; reply = refl })
-    (went_makes (calls.Retire task) (λ reply. dropped 0) _ _ (book count []) tt (record { named = refl; fit = refl; room = tt; reply = refl }) refl refl);
+      (record { named = refl; fit = refl; room = omega arith; reply = refl })
+      (went_makes (calls.Retire task) (λ reply. dropped 0) _ _ (book count []) tt (record { named = refl; fit = refl; room = tt; reply = refl }) refl refl);
   settled = settled_gone _ (n + 1) refl refl;
   book_for = record { count = count; key = pos 0; is = refl };
 }
@@ -216,7 +216,7 @@ runs f T count pending false takes n queued entries ok few room =
     record {
       ends = out.ends;
       went = went_asks (calls.Take task) _ _ _ _ tt (record { named = refl; fit = refl; room = omega arith; reply = refl })
-        (went_queue _ _ _ _ false (went_from (λ b. RunsRow (script_of_form f) worker T 0 (row_of (script_of_form f) 0 b)) w _ (book count []) _ out.went));
+          (went_queue _ _ _ _ false (went_from (λ b. RunsRow (script_of_form f) worker T 0 (row_of (script_of_form f) 0 b)) w _ (book count []) _ out.went));
       settled = out.settled;
       book_for = out.book_for;
     }

@@ -1,5 +1,5 @@
 -- The answers of the top call, from those of its parts.
-use Rattle.std.proofs.Common.{◌≡◌, ℕ, ◌+◌, ◌<◌, ◌≤◌, ◌⊎◌, inl, inr, true, false, List, [], length, take, refl, sym, ◌∙◌, ap, subst, arith, Option, Some, None, IfSome, Result, Ok, Err}
+use Rattle.std.proofs.Common.{◌≡◌, ℕ, ◌+◌, ◌<◌, ◌≤◌, true, List, [], length, take, refl, ◌∙◌, ap, subst, arith, Option, Some, None, IfSome, Result, Ok, Err}
 use Rattle.sched_base.specs.Streams.{Appends, AppendsFront}
 use Rattle.step_tables.specs.declared.faults.ScriptFault.{ScriptFault}
 use Rattle.step_tables.specs.declared.tables.Script.{Script}
@@ -9,7 +9,7 @@ use Rattle.step_tables.proofs.Length.{read_length, read_cut}
 use Rattle.transcript.specs.Spelling.{text_of}
 use Rattle.taskrun.specs.declared.status.Status.{Status}
 use Rattle.taskrun.specs.declared.status.Status.TheVariants.{Done, ScriptRefused, Usage, ReadFault, WriteFault, NoMemory, NotLawful, TextRefused}
-use Rattle.taskrun.specs.Answers.{OnScript, IsRefused, Wrote, WroteFront, Answers, Expected, IsRunning}
+use Rattle.taskrun.specs.Answers.{OnScript, Wrote, WroteFront, Answers, Expected, IsRunning}
 use Rattle.taskrun.specs.Play.{play}
 use Rattle.taskrun.proofs.Forms.{play_is_run}
 use Rattle.taskrun.proofs.PlayTexts.{play_reads_back}

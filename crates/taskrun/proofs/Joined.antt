@@ -1,5 +1,5 @@
 -- Reads and writes that follow one another.
-use Rattle.std.proofs.Common.{◌≡◌, ℕ, ◌+◌, ◌-◌, ◌≤◌, List, [], ◌∷◌, ◌++◌, Option, Some, None, take, drop, length, refl, sym, ◌∙◌, ap, subst, append_assoc, min, arith}
+use Rattle.std.proofs.Common.{◌≡◌, ℕ, ◌+◌, ◌-◌, ◌≤◌, List, ◌++◌, Option, Some, None, take, drop, length, sym, ◌∙◌, ap, subst, append_assoc, min, arith}
 use Rattle.std.proofs.lemmas.List.{take-append-drop, take_rest, length-take, length-append}
 use Rattle.std.proofs.Math.Seq.{take-add}
 use Rattle.sched_base.specs.Streams.{Appends, AppendsFront, Reads}

@@ -1,17 +1,12 @@
 -- The run that the worker makes of a script without tasks is lawful.
-use Rattle.std.proofs.Common.{◌≡◌, ℕ, zero, suc, ◌+◌, ◌-◌, ◌*◌, ◌<◌, ◌≤◌, Bool, true, false, if◌then◌else◌, List, [], ◌∷◌, ◌++◌, refl, sym, ◌∙◌, ap, subst, arith, append-nil}
+use Rattle.std.proofs.Common.{◌≡◌, ℕ, zero, suc, ◌-◌, ◌*◌, ◌≤◌, if◌then◌else◌, [], refl, sym, subst, arith, append-nil}
 use Rattle.queue_model.specs.Sweep.{fired, swept}
-use Rattle.queue_model.specs.RunList.{least, without_least}
-use Rattle.queue_model.specs.Classes.{pushed}
-use Rattle.sched_base.specs.declared.names.Class.TheVariants.{Normal}
 use Rattle.step_tables.specs.declared.tables.Script.{Script}
 use Rattle.task_machine.specs.declared.calls.Call.TheVariants as calls
-use Rattle.task_machine.specs.Step.{State}
-use Rattle.run_model.specs.Run.{Run}
 use Rattle.run_model.specs.Parts.{Quiet, Then, Makes, Each}
 use Rattle.run_model.specs.Replies.{is_rest}
-use Rattle.run_model.specs.Book.{Book, queued as queue, filled}
-use Rattle.run_model.specs.Turn.{Turn, Runs}
+use Rattle.run_model.specs.Book.{queued as queue, filled}
+use Rattle.run_model.specs.Turn.{Turn}
 use Rattle.run_model.specs.Standing.{dealt, blank_book, opening}
 use Rattle.run_model.specs.Lawful.{RoundOf, Goes, LawfulRun}
 use Rattle.taskrun.specs.Play.{worker, World, turned, rounds_from, rests_from, opened, play}
@@ -21,7 +16,7 @@ use Rattle.task_machine.proofs.Reasons.{TakesTell-legal}
 use Rattle.std.specs.List.{flat_map}
 use Rattle.taskrun.proofs.Went.{Went, went_then, went_quiet, went_from, went_at}
 use Rattle.taskrun.proofs.TurnOf.{after_some, filled_by}
-use Rattle.taskrun.proofs.RunOf.{standing, dealt_by, dealt_none, round_by}
+use Rattle.taskrun.proofs.RunOf.{dealt_none, round_by}
 
 -- a script of one worker and no task
 abbrev pub script_without : ℕ → ℕ → ℕ → ℕ → Script
@@ -39,8 +34,8 @@ no_turn depth start step rounds T w =
     went_then w w w b b b (went_quiet (λ b. b) w w b refl refl)
     (went_then w w w b b b
     (went_from (λ old. Then
-        (Quiet (λ b. record b { wait = swept T b.wait }))
-        (Each (λ i. Makes worker (calls.Wake (record { 0 = i }) 2) (λ reply b. if is_rest reply then queue s i b else b)) (fired T old.wait)))
+    (Quiet (λ b. record b { wait = swept T b.wait }))
+    (Each (λ i. Makes worker (calls.Wake (record { 0 = i }) 2) (λ reply b. if is_rest reply then queue s i b else b)) (fired T old.wait)))
     w w b b
     (went_then w w w b b b (went_quiet (λ b. record b { wait = swept T b.wait }) w w b refl refl) (went_quiet (λ b. b) w w b refl refl)))
     (went_then w w w b b b
@@ -64,7 +59,7 @@ goes_once n depth start step rounds =
     let went = no_turn depth start step rounds start (opened s) in
     let round = round_by depth start step rounds [] 0 start (opened s) (opened s) (blank_book 0) (blank_book 0) [] refl went in
     let dealt_round : RoundOf s 0 start (dealt s (opening s)) (record { tick = start; entries = [] }) (opening s) =
-        subst (λ old. RoundOf s 0 start old (record { tick = start; entries = [] }) (opening s)) (sym (deal_nothing depth start step rounds)) round in
+    subst (λ old. RoundOf s 0 start old (record { tick = start; entries = [] }) (opening s)) (sym (deal_nothing depth start step rounds)) round in
     (opening s, dealt_round, (refl, refl))
 
 -- the run of a script with no task is lawful
@@ -83,7 +78,7 @@ none_is_run depth start step rounds some =
     let s = script_without depth start step rounds in
     let first = after_some rounds (omega arith) in
     let nothing : history_of (play s) ≡ [] =
-        subst (λ n. flat_map (λ round. round.entries) (rounds_from n s start (opened s)) ≡ []) (sym first.1) (history_once first.0 depth start step rounds) in
+    subst (λ n. flat_map (λ round. round.entries) (rounds_from n s start (opened s)) ≡ []) (sym first.1) (history_once first.0 depth start step rounds) in
     record {
       lawful = lawful_none depth start step rounds some;
       reasons = TakesTell-legal (is_init s) (opening s).state (history_of (play s)) (λ i. refl) (subst (λ es. Legal (opening s).state es) (sym nothing) tt);

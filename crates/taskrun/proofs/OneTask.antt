@@ -1,5 +1,5 @@
 -- What the worker's calls make of the one task.
-use Rattle.std.proofs.Common.{◌≡◌, ◌≢◌, ℕ, zero, suc, ◌+◌, ◌<◌, ◌≤◌, ◌-◌, ◌^◌, ◌==◌, ◌&&◌, ◌||◌, not, Bool, true, false, if◌then◌else◌, List, [], ◌∷◌, ◌++◌, refl, sym, ◌∙◌, ap, subst, arith, lit<}
+use Rattle.std.proofs.Common.{◌≡◌, ◌≢◌, ℕ, zero, suc, ◌+◌, ◌<◌, ◌-◌, ◌^◌, ◌==◌, not, Bool, true, false, [], refl, sym, ◌∙◌, ap, subst, arith, lit<}
 use Rattle.std.proofs.lemmas.Bool.Decides.{nat_tests}
 use Rattle.sched_base.specs.declared.names.TaskId.{TaskId}
 use Rattle.task_machine.specs.declared.task.Place.{Place}
@@ -11,8 +11,8 @@ use Rattle.task_machine.specs.Step.{State, task_at, is_named, fits, after, AllRo
 use Rattle.step_tables.specs.declared.tables.Action.{Action}
 use Rattle.step_tables.specs.declared.tables.Action.TheVariants.{Wake, Kill}
 use Rattle.run_model.specs.Tables.{call_of}
-use Rattle.taskrun.specs.Play.{worker, task, World, made, replied, ended, ended_as}
-use Rattle.taskrun.specs.Stands.{at, one, Stands, IsAction, Phase, rests, waits, boxed, is_over, place_in, queued_in, Settled}
+use Rattle.taskrun.specs.Play.{worker, task}
+use Rattle.taskrun.specs.Stands.{at, one, Stands, IsAction}
 
 -- a task id with number 0 is that of the task
 pub is_task_id : (i : TaskId) → i.0 ≡ 0 → i ≡ task
@@ -113,4 +113,3 @@ room_one t (suc i) h = room_none i
 -- each task of the machine can be taken once more
 pub room_below : (s : State) (p : Place) (n : ℕ) → Stands s p n → n < 2 ^ 48 - 1 → AllRoom s
 room_below s p n st few = from_alone AllRoom s p n st (λ i. room_one _ i (omega arith))
-

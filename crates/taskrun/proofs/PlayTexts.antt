@@ -1,18 +1,15 @@
 -- The run that the worker makes has a text, which is read back as its lines.
-use Rattle.std.proofs.Common.{◌≡◌, ℕ, zero, suc, ◌+◌, ◌-◌, ◌%◌, ◌^◌, ◌<◌, ◌≤◌, Bool, true, false, if◌then◌else◌, ℤ, pos, List, [], ◌∷◌, ◌++◌, map, length, refl, sym, ◌∙◌, ap, subst, arith, lit<, Ok}
+use Rattle.std.proofs.Common.{◌≡◌, ℕ, zero, suc, ◌+◌, ◌-◌, ◌^◌, ◌<◌, ◌≤◌, Bool, true, false, if◌then◌else◌, pos, List, [], ◌∷◌, ◌++◌, map, length, refl, sym, subst, arith, lit<, Ok}
 use Rattle.std.specs.List.{AllByRecursion}
-use Rattle.step_tables.specs.declared.tables.Event.{Event}
 use Rattle.step_tables.specs.declared.tables.Script.{Script}
 use Rattle.step_tables.specs.declared.tables.TaskDef.{TaskDef}
 use Rattle.step_tables.specs.Sound.{is_sound, is_first_form}
 use Rattle.task_machine.specs.declared.task.TaskState.{TaskState}
 use Rattle.task_machine.specs.declared.calls.Entry.{Entry}
-use Rattle.task_machine.specs.Step.{State, task_at}
-use Rattle.task_machine.specs.History.{Legal, led}
-use Rattle.run_model.specs.Run.{Round, Run}
+use Rattle.task_machine.specs.Step.{task_at}
+use Rattle.run_model.specs.Run.{Round}
 use Rattle.run_model.specs.Book.{Book}
 use Rattle.run_model.specs.Standing.{opening, next_tick}
-use Rattle.transcript.specs.declared.lines.Line.{Line}
 use Rattle.transcript.specs.declared.lines.Line.TheVariants as lines
 use Rattle.transcript.specs.RunLines.{lines_from, lines_of_run}
 use Rattle.transcript.specs.HasText.{HasText, HasTextLine}
@@ -20,7 +17,7 @@ use Rattle.transcript.specs.Spelling.{text_of}
 use Rattle.transcript.specs.Judging.{lines_of}
 use Rattle.transcript.proofs.TextAgain.{text_again}
 use Rattle.taskrun.specs.Play.{World, turned, is_quiet, cleared, rounds_from, rests_from, opened, play}
-use Rattle.taskrun.specs.Stands.{one, Stands, IsAction, Settled}
+use Rattle.taskrun.specs.Stands.{one, IsAction, Settled}
 use Rattle.taskrun.proofs.Went.{IsMine, SmallCall}
 use Rattle.taskrun.proofs.Acts.{Form, script_of_form, book, BookFor}
 use Rattle.taskrun.proofs.TurnOf.{after_some}
@@ -56,8 +53,8 @@ lines_rounds (suc n) r f T k w b rest h ok room few tick st for clear small =
     let small_v : Small v.state = subst Small (sym out.leads) entries.1 in
     let more = rounds_from n s (next_tick s T) (cleared v) in
     let next : AllByRecursion HasTextLine (lines_from (r + 1) more rest) =
-        lines_rounds n (r + 1) f (next_tick s T) (k + 1) (cleared v) out.ends rest h ok (omega arith) (omega arith) (tick_small s T)
-        (record { phase = out.settled.phase; stands = out.settled.stands; queued = out.settled.queued }) out.book_for refl small_v in
+    lines_rounds n (r + 1) f (next_tick s T) (k + 1) (cleared v) out.ends rest h ok (omega arith) (omega arith) (tick_small s T)
+    (record { phase = out.settled.phase; stands = out.settled.stands; queued = out.settled.queued }) out.book_for refl small_v in
     ((omega arith, tick), all_append HasTextLine (map lines.Entry v.entries) _ entries.0 (lines_next (is_quiet v) (r + 1) more rest (omega arith) next))
 
 -- the state of the opening
@@ -90,7 +87,7 @@ none_has_text depth start step rounds range =
     record {
       begun = some_rounds rounds s start (opened s) range.some_rounds;
       lines = subst (λ n. AllByRecursion HasTextLine (lines_from 0 (rounds_from n s start (opened s)) (rests_from rounds s (opened s)))) (sym first.1)
-        (lines_once first.0 depth start step rounds (rests_from rounds s (opened s)) (omega (arith, range.start)));
+          (lines_once first.0 depth start step rounds (rests_from rounds s (opened s)) (omega (arith, range.start)));
     }
 
 text_by_tasks : (s : Script) (tasks : List TaskDef) → s.tasks ≡ tasks → Ranged s → Formed tasks s → HasText (play s)

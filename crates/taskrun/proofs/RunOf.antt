@@ -1,26 +1,26 @@
 -- The run that the worker makes of a script of the first form is lawful.
-use Rattle.std.proofs.Common.{◌≡◌, ℕ, zero, suc, ◌+◌, ◌-◌, ◌*◌, ◌^◌, ◌<◌, ◌≤◌, ◌==◌, ◌||◌, ◌&&◌, not, Bool, true, false, if◌then◌else◌, ℤ, pos, List, [], ◌∷◌, ◌++◌, refl, sym, ◌∙◌, ap, subst, arith, nat_le, IsTrue, fold, length, MatchBool}
+use Rattle.std.proofs.Common.{◌≡◌, ℕ, zero, suc, ◌+◌, ◌-◌, ◌*◌, ◌^◌, ◌<◌, ◌≤◌, ◌==◌, ◌&&◌, Bool, true, false, if◌then◌else◌, pos, List, [], ◌∷◌, ◌++◌, refl, sym, ◌∙◌, ap, subst, arith, nat_le, fold, MatchBool}
 use Rattle.std.proofs.lemmas.Bool.Decides.{nat_tests}
 use Rattle.step_tables.specs.declared.tables.Script.{Script}
 use Rattle.step_tables.specs.declared.tables.TaskDef.{TaskDef}
 use Rattle.std.specs.List.{AllByRecursion, list_all, flat_map}
-use Rattle.queue_model.specs.RunList.{RunList, hands_out, without_least}
+use Rattle.queue_model.specs.RunList.{hands_out, without_least}
 use Rattle.task_machine.specs.declared.calls.Entry.{Entry}
 use Rattle.task_machine.specs.Step.{State, task_at}
 use Rattle.task_machine.specs.Since.{OpensAs}
 use Rattle.task_machine.proofs.Reasons.{TakesTell-legal}
 use Rattle.task_machine.specs.History.{Legal, led, calls_of}
-use Rattle.run_model.specs.Run.{Round, Run}
+use Rattle.run_model.specs.Run.{Round}
 use Rattle.run_model.specs.Book.{Book}
 use Rattle.run_model.specs.Turn.{Turn}
 use Rattle.run_model.specs.Standing.{Standing, no_run, dealt, dealt_to, next_tick, is_at_rest, no_timer, opening}
-use Rattle.run_model.specs.Lawful.{RoundOf, Goes, LawfulRun, Turns, Injects}
-use Rattle.taskrun.specs.Play.{worker, task, World, turned, is_quiet, cleared, rounds_from, rests_from, opened, play}
-use Rattle.taskrun.specs.Stands.{at, one, Stands, IsAction, Phase, rests, waits, boxed, is_over, place_in, queued_in, Settled}
+use Rattle.run_model.specs.Lawful.{RoundOf, Goes, LawfulRun}
+use Rattle.taskrun.specs.Play.{worker, World, turned, is_quiet, cleared, rounds_from, rests_from, opened, play}
+use Rattle.taskrun.specs.Stands.{at, one, IsAction, Phase, rests, waits, boxed, is_over, place_in, Settled}
 use Rattle.taskrun.specs.Headline.{history_of, is_init, IsRunOf}
 use Rattle.taskrun.proofs.Went.{Went, IsMine, legal_more}
-use Rattle.taskrun.proofs.Acts.{Form, script_of_form, world, book, waiting, BookFor, Outcome}
-use Rattle.taskrun.proofs.TurnOf.{turn, before, settled_is}
+use Rattle.taskrun.proofs.Acts.{Form, script_of_form, book, BookFor}
+use Rattle.taskrun.proofs.TurnOf.{turn}
 
 -- what stands between two rounds of one worker
 abbrev pub standing : State → Book → List ℕ → Standing
@@ -106,7 +106,7 @@ rounded f r T n w b hosts h ok room st for clear =
     record {
       ends = out.ends;
       round = subst (λ old. RoundOf s r T old (record { tick = T; entries = v.entries }) (standing v.state out.ends hosts)) (sym (dealt_is f w n b hosts st))
-        (round_by f.depth f.start f.step f.rounds s.tasks r T w v b out.ends hosts clear out.went);
+          (round_by f.depth f.start f.step f.rounds s.tasks r T w v b out.ends hosts clear out.went);
       legal = subst (λ xs. Legal w.state xs) same out.went.legal;
       leads = out.went.leads ∙ ap (λ xs. led w.state xs) same;
       mine = subst (λ xs. AllByRecursion IsMine xs) same out.went.mine;
@@ -118,7 +118,6 @@ rounded f r T n w b hosts h ok room st for clear =
 at_rest_is : (f : Form) (r : ℕ) (v : World) (c : Book) (hosts : List ℕ) (q : Bool) → BookFor c q → is_at_rest (script_of_form f) r (standing v.state c hosts) ≡ (is_quiet v && true)
 at_rest_is f r v c hosts q for =
     ap (λ (b : Book). is_quiet v && (true && no_timer (standing v.state b hosts))) for.is
-
 
 -- how a run goes on after a round: it is at rest, or that was the last round, or the next one comes
 after_round : (quiet : Bool) (n : ℕ) (last : Bool) (s : Script) (r T : ℕ) (new : Standing) (v : World) → (last ≡ true → n ≡ 0) → (last ≡ false → Goes s (rests_from n s (cleared v)) (r + 1) (next_tick s T) new (rounds_from n s (next_tick s T) (cleared v))) → let more = (if quiet then [] else rounds_from n s (next_tick s T) (cleared v)) in let rest = (if quiet then true else rests_from n s (cleared v)) in MatchBool (quiet && true) ((more ≡ []) × (rest ≡ true)) (MatchBool last ((more ≡ []) × (rest ≡ false)) (Goes s rest (r + 1) (next_tick s T) new more))
@@ -144,9 +143,9 @@ goes (suc n) r f T k w b hosts h ok left some room st for clear =
     let more = (if is_quiet v then [] else rounds_from n s (next_tick s T) (cleared v)) in
     let rest = (if is_quiet v then true else rests_from n s (cleared v)) in
     let next = after_round (is_quiet v) n (r + 1 == f.rounds) s r T new v
-        (last_round r n f.rounds left)
-        (λ not_last. goes n (r + 1) f (next_tick s T) (k + 1) (cleared v) out.ends hosts h ok (omega arith) (not_last_round r n f.rounds left not_last) (omega arith)
-            (record { phase = out.settled.phase; stands = out.settled.stands; queued = out.settled.queued }) out.book_for refl) in
+    (last_round r n f.rounds left)
+    (λ not_last. goes n (r + 1) f (next_tick s T) (k + 1) (cleared v) out.ends hosts h ok (omega arith) (not_last_round r n f.rounds left not_last) (omega arith)
+    (record { phase = out.settled.phase; stands = out.settled.stands; queued = out.settled.queued }) out.book_for refl) in
     (new, out.round, subst (λ x. MatchBool x ((more ≡ []) × (rest ≡ true)) (MatchBool (r + 1 == f.rounds) ((more ≡ []) × (rest ≡ false)) (Goes s rest (r + 1) (next_tick s T) new more))) (sym (at_rest_is f r v out.ends hosts v.queued out.book_for)) next)
 
 -- the opening of a run
@@ -172,8 +171,8 @@ legal_rounds (suc n) f T k w b h ok room st for clear =
     let out = rounded f 0 T k w b [] h ok (omega arith) st for clear in
     let more = rounds_from n s (next_tick s T) (cleared v) in
     let next : Legal v.state (history_in more) =
-        legal_rounds n f (next_tick s T) (k + 1) (cleared v) out.ends h ok (omega arith)
-        (record { phase = out.settled.phase; stands = out.settled.stands; queued = out.settled.queued }) out.book_for refl in
+    legal_rounds n f (next_tick s T) (k + 1) (cleared v) out.ends h ok (omega arith)
+    (record { phase = out.settled.phase; stands = out.settled.stands; queued = out.settled.queued }) out.book_for refl in
     legal_more w.state v.entries (history_in (if is_quiet v then [] else more)) out.legal
     (subst (λ s. Legal s (history_in (if is_quiet v then [] else more))) out.leads (legal_next (is_quiet v) v.state more next))
 

@@ -1,5 +1,5 @@
 -- Each entry of a legal history has a text, where its wakes have reasons out of the seven.
-use Rattle.std.proofs.Common.{◌≡◌, ◌≢◌, ℕ, zero, suc, ◌+◌, ◌-◌, ◌*◌, ◌^◌, ◌<◌, ◌≤◌, ◌==◌, ◌&&◌, not, Bool, true, false, if◌then◌else◌, List, [], ◌∷◌, map, length, refl, sym, ◌∙◌, ap, subst, arith, lit<, nat_lt, bit_or}
+use Rattle.std.proofs.Common.{◌≡◌, ℕ, ◌+◌, ◌^◌, ◌<◌, ◌≤◌, ◌==◌, ◌&&◌, not, Bool, true, false, if◌then◌else◌, List, [], ◌∷◌, map, length, refl, sym, subst, arith, lit<}
 use Rattle.std.proofs.lemmas.Bool.{ltb-true, eqb-true}
 use Rattle.std.proofs.lemmas.Bool.Decides.{nat_tests}
 use Rattle.std.proofs.lemmas.Nat.{or_lt}
@@ -13,12 +13,12 @@ use Rattle.task_machine.specs.declared.calls.Call.TheVariants as calls
 use Rattle.task_machine.specs.declared.calls.Reply.{Reply}
 use Rattle.task_machine.specs.declared.calls.Reply.TheVariants as replies
 use Rattle.task_machine.specs.declared.calls.Entry.{Entry}
-use Rattle.task_machine.specs.Task.{is_gone, is_boxed, seen_at, seen_of, woken, flagged, got}
-use Rattle.task_machine.specs.Step.{State, task_at, subject, is_about, is_named, is_box, is_task, names, changed, moved, after, Roomy, HasRoom, IsReply, Allowed}
+use Rattle.task_machine.specs.Task.{is_gone, is_boxed, seen_at, seen_of}
+use Rattle.task_machine.specs.Step.{State, task_at, subject, is_about, is_box, is_task, names, changed, Roomy, HasRoom, IsReply, Allowed}
 use Rattle.task_machine.specs.History.{Legal, led, stepped}
 use Rattle.task_machine.proofs.After.{task_at-after, subject-lt, length-after}
 use Rattle.transcript.specs.declared.lines.Line.TheVariants as lines
-use Rattle.transcript.specs.HasText.{HasTextLine, HasTextEntry, HasTextCall, HasTextSeen, TellsTask, FitsEntry, FitsCall, FitsReply}
+use Rattle.transcript.specs.HasText.{HasTextLine, HasTextCall, HasTextSeen, TellsTask, FitsCall, FitsReply}
 use Rattle.taskrun.proofs.Went.{SmallCall}
 use Rattle.taskrun.proofs.EngineForm.{both}
 

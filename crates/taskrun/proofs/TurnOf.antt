@@ -1,26 +1,24 @@
 -- A turn of the worker is lawful.
-use Rattle.std.proofs.Common.{◌≡◌, ℕ, zero, suc, ◌+◌, ◌-◌, ◌*◌, ◌/◌, ◌%◌, ◌^◌, ◌<◌, ◌≤◌, ◌==◌, ◌||◌, ◌&&◌, not, min, Bool, true, false, if◌then◌else◌, ℤ, pos, List, [], ◌∷◌, ◌++◌, refl, sym, ◌∙◌, ap, subst, arith, Some, None, Option, take, drop, append-nil}
+use Rattle.std.proofs.Common.{◌≡◌, ℕ, zero, suc, ◌+◌, ◌-◌, ◌*◌, ◌^◌, ◌<◌, ◌≤◌, ◌||◌, Bool, true, false, if◌then◌else◌, ℤ, List, [], ◌∷◌, refl, sym, ◌∙◌, ap, subst, arith, Some, None, append-nil}
 use Rattle.std.specs.List.{AllByRecursion}
 use Rattle.std.specs.Int.{div_ceil}
 use Rattle.sched_base.specs.declared.names.Class.TheVariants.{Normal}
 use Rattle.queue_model.specs.RunList.{RunItem, least, without_least}
 use Rattle.queue_model.specs.Classes.{Classes, pushed, quotas, spent, run_in, next_run}
 use Rattle.queue_model.specs.Sweep.{fired, swept}
-use Rattle.task_machine.specs.declared.task.Place.{Place}
-use Rattle.task_machine.specs.declared.task.Place.TheVariants as places
 use Rattle.task_machine.specs.declared.calls.Call.TheVariants as calls
 use Rattle.task_machine.specs.declared.calls.Reply.TheVariants as replies
 use Rattle.task_machine.specs.declared.calls.Entry.{Entry}
 use Rattle.task_machine.specs.Task.{is_boxed}
 use Rattle.task_machine.specs.Step.{State, Allowed, bit, mask_of}
 use Rattle.task_machine.proofs.Replies.{Allowed-reply_of}
-use Rattle.run_model.specs.Parts.{Part, Nothing, Quiet, Then, Makes, Each}
+use Rattle.run_model.specs.Parts.{Part, Quiet, Then, Makes, Each}
 use Rattle.run_model.specs.Replies.{is_rest, members}
-use Rattle.run_model.specs.Book.{Book, queued as queue, queued_all, filled, taken_from}
+use Rattle.run_model.specs.Book.{Book, queued as queue, queued_all, filled}
 use Rattle.run_model.specs.Turn.{Gets, Fires, RunOf, RunsOf, Runs, Turn}
-use Rattle.taskrun.specs.Play.{worker, task, World, made, replied, collected, ran, served, turned, actions_of, has_members}
-use Rattle.taskrun.specs.Stands.{at, one, Stands, IsAction, Phase, rests, waits, boxed, is_over, place_in, queued_in, Settled}
-use Rattle.taskrun.proofs.Went.{entry_of, Went, went_then, went_quiet, went_asks, went_makes, went_from, went_queue, went_at}
+use Rattle.taskrun.specs.Play.{worker, World, made, replied, collected, ran, served, turned, has_members}
+use Rattle.taskrun.specs.Stands.{at, one, IsAction, Phase, rests, waits, boxed, is_over, place_in, queued_in, Settled}
+use Rattle.taskrun.proofs.Went.{entry_of, Went, went_then, went_quiet, went_makes, went_from, went_at}
 use Rattle.taskrun.proofs.Acts.{Form, script_of_form, world, book, waiting, BookFor, Outcome, runs}
 
 -- what a get finds in the box: the one task, or nothing
@@ -91,8 +89,8 @@ gets f T phase pending killed takes entries b =
 fires : (f : Form) (T count : ℕ) (items : List RunItem) (v : World) → Went (Fires (script_of_form f) worker T) v (book count items) v (book count items)
 fires f T count items v =
     went_from (λ old. Then
-        (Quiet (λ b. record b { wait = swept T b.wait }))
-        (Each (λ i. Makes worker (calls.Wake (record { 0 = i }) 2) (λ reply b. if is_rest reply then queue (script_of_form f) i b else b)) (fired T old.wait)))
+    (Quiet (λ b. record b { wait = swept T b.wait }))
+    (Each (λ i. Makes worker (calls.Wake (record { 0 = i }) 2) (λ reply b. if is_rest reply then queue (script_of_form f) i b else b)) (fired T old.wait)))
     v v (book count items) (book count items)
     (went_then v v v (book count items) (book count items) (book count items)
     (went_quiet (λ b. record b { wait = swept T b.wait }) v v (book count items) refl refl)
@@ -249,9 +247,9 @@ turn_phase f T count key phase pending killed takes n entries h ok few room =
     let v = before (phase_got phase) pending killed takes (made (calls.Get 0) w).entries in
     let after_v = served_phase f T for.count for.key phase pending killed takes n (made (calls.Get 0) w).entries h ok few room in
     let after_w : Outcome (After f T) (collected w) (book for.count (waiting (queued_in (phase_got phase)) for.key)) (served f.actions (collected w)) (n + 1) =
-        subst (λ v. Outcome (After f T) v (book for.count (waiting (queued_in (phase_got phase)) for.key)) (served f.actions v) (n + 1)) (sym (got_world phase pending killed takes entries)) after_v in
+    subst (λ v. Outcome (After f T) v (book for.count (waiting (queued_in (phase_got phase)) for.key)) (served f.actions v) (n + 1)) (sym (got_world phase pending killed takes entries)) after_v in
     let out : Outcome (After f T) (collected w) c (served f.actions (collected w)) (n + 1) =
-        subst (λ c. Outcome (After f T) (collected w) c (served f.actions (collected w)) (n + 1)) (sym for.is) after_w in
+    subst (λ c. Outcome (After f T) (collected w) c (served f.actions (collected w)) (n + 1)) (sym for.is) after_w in
     record {
       ends = out.ends;
       went = went_then w (collected w) (served f.actions (collected w)) b c out.ends (gets f T phase pending killed takes entries b) out.went;

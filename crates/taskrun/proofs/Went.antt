@@ -1,14 +1,14 @@
 -- Calls that the worker made are a lawful part of its turn, and a legal history: one lemma for each way in which
 -- parts are put together.
-use Rattle.std.proofs.Common.{◌≡◌, ℕ, ◌<◌, ◌==◌, Bool, true, false, if◌then◌else◌, List, [], ◌∷◌, ◌++◌, refl, sym, ◌∙◌, ap, subst, append_assoc, append-nil, MatchBool}
+use Rattle.std.proofs.Common.{◌≡◌, ◌<◌, Bool, true, false, List, [], ◌∷◌, ◌++◌, refl, sym, ◌∙◌, ap, subst, append_assoc, append-nil}
 use Rattle.std.specs.List.{AllByRecursion}
 use Rattle.task_machine.specs.declared.calls.Call.{Call}
 use Rattle.task_machine.specs.declared.calls.Call.TheVariants as calls
 use Rattle.task_machine.specs.declared.calls.Reply.{Reply}
 use Rattle.task_machine.specs.declared.calls.Entry.{Entry}
-use Rattle.task_machine.specs.Step.{State, Allowed, after, reply_of}
+use Rattle.task_machine.specs.Step.{State, Allowed}
 use Rattle.task_machine.specs.History.{Legal, led, stepped}
-use Rattle.run_model.specs.Parts.{Part, Quiet, Nothing, Then, Asks, Makes, Either, From, Each}
+use Rattle.run_model.specs.Parts.{Part, Quiet, Then, Asks, Makes, Either, From}
 use Rattle.run_model.specs.Book.{Book}
 use Rattle.taskrun.specs.Play.{worker, World, made, replied}
 

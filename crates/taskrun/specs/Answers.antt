@@ -1,6 +1,6 @@
 -- What each answer of the top call says (docs/MODEL.md, "Answers").
-use Rattle.std.specs.Prelude.{◌≡◌, ℕ, ◌<◌, ◌≤◌, ◌⊎◌, Bool, true, false, List, [], ◌∷◌, ◌++◌, length, bytes_eq, codes, Option, Some, None, MatchOption, Result, Ok, Err}
-use Rattle.sched_base.specs.Streams.{Reads, Appends, AppendsFront, Rose}
+use Rattle.std.specs.Prelude.{◌≡◌, ℕ, ◌≤◌, ◌⊎◌, Bool, true, false, List, [], ◌∷◌, length, bytes_eq, codes, Option, Result, Ok, Err}
+use Rattle.sched_base.specs.Streams.{Reads, Appends, AppendsFront}
 use Rattle.step_tables.specs.declared.faults.ScriptFault.{ScriptFault}
 use Rattle.step_tables.specs.declared.tables.Script.{Script}
 use Rattle.step_tables.specs.Sound.{is_first_form}

@@ -1,5 +1,5 @@
 -- What the one worker of a script with at most one task does, call by call (docs/MODEL.md, "The first engine").
-use Rattle.std.specs.Prelude.{◌≡◌, ℕ, zero, suc, ◌+◌, ◌==◌, Bool, true, false, not, ◌||◌, if◌then◌else◌, List, [], ◌∷◌, ◌++◌, fold}
+use Rattle.std.specs.Prelude.{ℕ, zero, suc, ◌==◌, Bool, true, false, not, ◌||◌, if◌then◌else◌, List, [], ◌∷◌, ◌++◌, fold}
 use Rattle.std.specs.List.{list_all}
 use Rattle.sched_base.specs.declared.names.CallerId.{CallerId}
 use Rattle.sched_base.specs.declared.names.TaskId.{TaskId}

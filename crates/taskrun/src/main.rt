@@ -5,18 +5,17 @@ mod engine;
 mod pieces;
 mod rounds;
 mod status;
-mod top;
 #[cfg(test)]
 mod tests;
-
-pub use status::Status;
-pub use top::taskrun;
+mod top;
 
 use sched_base::{OpenGate, StdSink, StdSource};
+pub use status::Status;
 use std::alloc::AllocError;
 use std::env;
 use std::io::ErrorKind;
 use std::process::ExitCode;
+pub use top::taskrun;
 
 /// The words of the command line behind the program's own name; none where one is no text.
 fn words_of(rt: &HostRuntime) -> Result<Vec<String>, AllocError> {

@@ -5,19 +5,24 @@ use sched_base::{MemSink, MemSource, OpenGate};
 use std::alloc::{AllocError, Global};
 use std::test::Fail;
 
-const FIRST: &str = "taskscript 1\nworkers 1\ndepth 200\nstart 0\nstep 1\nrounds 5\ntask a home 0 nice 0 rows 1 init\nrow a 0 kill a next 0\nend\n";
+const FIRST: &str =
+    "taskscript 1\nworkers 1\ndepth 200\nstart 0\nstep 1\nrounds 5\ntask a home 0 nice 0 rows 1 init\nrow a 0 kill a next 0\nend\n";
 
-const FIRST_TEXT: &str = "taskrun 1\nround 0 tick 0\nc0 get 0 0000000000000001\nc0 take 0 queued init live 0\nc0 kill 0 runs - live 1\nc0 drop 0 runs - killed 1\nc0 retire 0 queued - killed 1\nend rest 0\n";
+const FIRST_TEXT: &str =
+    "taskrun 1\nround 0 tick 0\nc0 get 0 0000000000000001\nc0 take 0 queued init live 0\nc0 kill 0 runs - live 1\nc0 drop 0 runs - killed 1\nc0 retire 0 queued - killed 1\nend rest 0\n";
 
 const EMPTY: &str = "taskscript 1\nworkers 1\ndepth 200\nstart 0\nstep 1\nrounds 5\nend\n";
 
 const EMPTY_TEXT: &str = "taskrun 1\nround 0 tick 0\nend rest 0\n";
 
-const SELF_WAKE: &str = "taskscript 1\nworkers 1\ndepth 200\nstart 1\nstep 1\nrounds 3\ntask a home 0 nice 0 rows 1 init\nrow a 0 wake a other next 0\nend\n";
+const SELF_WAKE: &str =
+    "taskscript 1\nworkers 1\ndepth 200\nstart 1\nstep 1\nrounds 3\ntask a home 0 nice 0 rows 1 init\nrow a 0 wake a other next 0\nend\n";
 
-const SELF_WAKE_TEXT: &str = "taskrun 1\nround 0 tick 1\nc0 get 0 0000000000000001\nc0 take 0 queued init live 0\nc0 wake 0 other runs - live 1\nc0 drop 0 runs other live 1\nround 1 tick 2\nc0 get 0 0000000000000000\nc0 take 0 queued other live 1\nc0 wake 0 other runs - live 2\nc0 drop 0 runs other live 2\nround 2 tick 3\nc0 get 0 0000000000000000\nc0 take 0 queued other live 2\nc0 wake 0 other runs - live 3\nc0 drop 0 runs other live 3\nend limit 2\n";
+const SELF_WAKE_TEXT: &str =
+    "taskrun 1\nround 0 tick 1\nc0 get 0 0000000000000001\nc0 take 0 queued init live 0\nc0 wake 0 other runs - live 1\nc0 drop 0 runs other live 1\nround 1 tick 2\nc0 get 0 0000000000000000\nc0 take 0 queued other live 1\nc0 wake 0 other runs - live 2\nc0 drop 0 runs other live 2\nround 2 tick 3\nc0 get 0 0000000000000000\nc0 take 0 queued other live 2\nc0 wake 0 other runs - live 3\nc0 drop 0 runs other live 3\nend limit 2\n";
 
-const TIMER: &str = "taskscript 1\nworkers 1\ndepth 200\nstart 4294967290\nstep 4\nrounds 10\ntask a home 0 nice 0 rows 2 init\nrow a 0 after 10 next 1\nrow a 1 kill a next 1\nend\n";
+const TIMER: &str =
+    "taskscript 1\nworkers 1\ndepth 200\nstart 4294967290\nstep 4\nrounds 10\ntask a home 0 nice 0 rows 2 init\nrow a 0 after 10 next 1\nrow a 1 kill a next 1\nend\n";
 
 /// How the streams of a run give and take bytes.
 #[derive(Clone, Copy)]
@@ -63,7 +68,11 @@ fn words_of(alloc: Global, line: &str) -> Result<Vec<String>, AllocError> {
 fn run(alloc: Global, line: &str, script: &str, streams: Streams) -> Result<Outcome, AllocError> {
     let words = words_of(alloc, line)?;
     let bytes = Vec::from_slice(alloc, script.as_bytes())?;
-    let mut src = MemSource::new(bytes, streams.piece_in.max(1), listed(alloc, streams.fails_in)?);
+    let mut src = MemSource::new(
+        bytes,
+        streams.piece_in.max(1),
+        listed(alloc, streams.fails_in)?,
+    );
     let fails_out = listed(alloc, streams.fails_out)?;
     let mut out = MemSink::new(alloc, streams.room, streams.piece_out.max(1), fails_out)?;
     let mut err = MemSink::new(alloc, 100, 100, Vec::new(alloc))?;
@@ -106,7 +115,11 @@ fn answers_worked_scripts(rt: HostRuntime) -> Result<(), Fail> {
 fn takes_any_pieces(rt: HostRuntime) -> Result<(), Fail> {
     for piece_in in [1, 7, 16] {
         for piece_out in [1, 10] {
-            let streams = Streams { piece_in, piece_out, ..CALM };
+            let streams = Streams {
+                piece_in,
+                piece_out,
+                ..CALM
+            };
             let outcome = run(rt.alloc(), "run", SELF_WAKE, streams)?;
             assert_eq!(rt; outcome.code, 0);
             assert_eq!(rt; outcome.text.as_slice(), SELF_WAKE_TEXT.as_bytes());
@@ -119,7 +132,11 @@ fn takes_any_pieces(rt: HostRuntime) -> Result<(), Fail> {
 fn tells_failed_reads(rt: HostRuntime) -> Result<(), Fail> {
     let reads = SELF_WAKE.len().div_ceil(16) as u64 + 1;
     for n in 0..21 {
-        let streams = Streams { piece_in: 16, fails_in: Some(n), ..CALM };
+        let streams = Streams {
+            piece_in: 16,
+            fails_in: Some(n),
+            ..CALM
+        };
         let outcome = run(rt.alloc(), "run", SELF_WAKE, streams)?;
         assert_eq!(rt; outcome.code, if n < reads { 3 } else { 0 });
         assert_eq!(rt; outcome.text.is_empty(), n < reads);
@@ -131,7 +148,11 @@ fn tells_failed_reads(rt: HostRuntime) -> Result<(), Fail> {
 fn tells_failed_writes(rt: HostRuntime) -> Result<(), Fail> {
     let mut failed = 0;
     for n in 0..61 {
-        let streams = Streams { piece_out: 10, fails_out: Some(n), ..CALM };
+        let streams = Streams {
+            piece_out: 10,
+            fails_out: Some(n),
+            ..CALM
+        };
         let outcome = run(rt.alloc(), "run", SELF_WAKE, streams)?;
         let whole = outcome.text.len() == SELF_WAKE_TEXT.len();
         assert_eq!(rt; outcome.code, if whole { 0 } else { 4 });
