@@ -1,6 +1,5 @@
 -- The test for legal histories decides them.
-use Rattle.std.proofs.Common.{◌≡◌, ◌*◌, Bool, true, false, List, [], ◌∷◌, refl, sym, ap, subst, ◌∙◌, eqb-true, ltb-true, lt-ltb}
-use Rattle.sched_base.specs.declared.names.CallerId.{CallerId}
+use Rattle.std.proofs.Common.{◌≡◌, Bool, true, false, List, [], ◌∷◌, refl, sym, ap, subst, eqb-true, ltb-true, lt-ltb}
 use Rattle.task_machine.specs.declared.task.Stand.{Stand}
 use Rattle.task_machine.specs.declared.task.Stand.TheVariants.{Rest, Queued, Runs}
 use Rattle.task_machine.specs.declared.task.Seen.{Seen}
@@ -11,9 +10,8 @@ use Rattle.task_machine.specs.declared.calls.Call.TheVariants.{Wake, Kill, Post,
 use Rattle.task_machine.specs.declared.calls.Reply.{Reply}
 use Rattle.task_machine.specs.declared.calls.Reply.TheVariants.{Task, Group, Done}
 use Rattle.task_machine.specs.declared.calls.Entry.{Entry}
-use Rattle.task_machine.specs.Step.{State, Roomy, IsReply, Allowed, mask_of, reply_of}
-use Rattle.std.proofs.lemmas.Nat.Bits.{same_from_bits_below}
-use Rattle.run_model.proofs.Words.{mask_below, mask_bit}
+use Rattle.task_machine.specs.Step.{State, Roomy, IsReply, Allowed, reply_of}
+use Rattle.task_machine.proofs.Replies.{IsReply-reply_of, IsReply-unique}
 use Rattle.task_machine.specs.History.{Legal, stepped}
 use Rattle.run_model.specs.IsLawful.{same_stand, same_flag, same_seen, same_reply, is_roomy, is_allowed, is_legal}
 use Rattle.run_model.proofs.Readings.{both, same_number}
@@ -84,27 +82,6 @@ true_roomy (Take i) t h = lt-ltb _ _ h
 true_roomy (DropRun i) t h = refl
 true_roomy (Retire i) t h = refl
 
--- the computed reply is a right one, and there is no other
-pub right_reply : (s : State) (k : CallerId) (c : Call) → IsReply s k c (reply_of s k c)
-right_reply s k (Wake i f) = refl
-right_reply s k (Kill i) = refl
-right_reply s k (Post i b) = refl
-right_reply s k (Get g) = (mask_of s k.0 (64 * g) 64, refl, (mask_below s k.0 (64 * g) 64, mask_bit s k.0 (64 * g) 64))
-right_reply s k (Take i) = refl
-right_reply s k (DropRun i) = refl
-right_reply s k (Retire i) = refl
-
-pub one_reply : (s : State) (k : CallerId) (c : Call) (x y : Reply) → IsReply s k c x → IsReply s k c y → x ≡ y
-one_reply s k (Wake i f) x y h g = h ∙ sym g
-one_reply s k (Kill i) x y h g = h ∙ sym g
-one_reply s k (Post i b) x y h g = h ∙ sym g
-one_reply s k (Get i) x y h g =
-    let same : h.0 ≡ g.0 = same_from_bits_below 64 h.0 g.0 h.2.0 g.2.0 (λ j below. h.2.1 j below ∙ sym (g.2.1 j below)) in
-    h.1 ∙ (ap (λ n. Group n) same ∙ sym g.1)
-one_reply s k (Take i) x y h g = h ∙ sym g
-one_reply s k (DropRun i) x y h g = h ∙ sym g
-one_reply s k (Retire i) x y h g = h ∙ sym g
-
 pub allowed_true : (s : State) (e : Entry) → is_allowed s e ≡ true → Allowed s e
 allowed_true s e h =
     let a = both _ _ h in
@@ -114,12 +91,12 @@ allowed_true s e h =
       named = a.0;
       fit = b.0;
       room = roomy_true e.call _ c.0;
-      reply = subst (λ (r : Reply). IsReply s e.caller e.call r) (reply_true _ _ c.1) (right_reply s e.caller e.call);
+      reply = subst (λ (r : Reply). IsReply s e.caller e.call r) (reply_true _ _ c.1) (IsReply-reply_of s e.caller e.call);
     }
 
 pub true_allowed : (s : State) (e : Entry) → Allowed s e → is_allowed s e ≡ true
 true_allowed s e h =
-    let same : reply_of s e.caller e.call ≡ e.reply = one_reply s e.caller e.call _ _ (right_reply s e.caller e.call) h.reply in
+    let same : reply_of s e.caller e.call ≡ e.reply = sym (IsReply-unique s e.caller e.call e.reply h.reply) in
     let equal : same_reply (reply_of s e.caller e.call) e.reply ≡ true = subst (λ (r : Reply). same_reply (reply_of s e.caller e.call) r ≡ true) same (reply_refl (reply_of s e.caller e.call)) in
     rw (h.named, h.fit, true_roomy e.call _ h.room, equal) refl
 

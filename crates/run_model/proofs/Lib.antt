@@ -3,5 +3,4 @@ pub mod HistoryTest
 pub mod Readings
 pub mod TurnReadings
 mod Worked
-pub mod Words
 pub mod Times
