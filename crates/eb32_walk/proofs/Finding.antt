@@ -1,22 +1,21 @@
 -- What the look-ups make of the part that the descent found.
-use Rattle.std.proofs.Common.{◌≡◌, ℕ, ◌<◌, ◌≤◌, inl, inr, List, [], ◌++◌, length, Bool, true, false, filter, refl, sym, ap, ◌∙◌, subst, arith, ne_eqb, eq-eqb}
+use Rattle.std.proofs.Common.{◌≡◌, ℕ, ◌<◌, ◌≤◌, inl, inr, List, [], ◌++◌, length, Bool, true, false, filter, sym, ap, ◌∙◌, subst, arith, ne_eqb, eq-eqb}
 use Rattle.std.specs.Prelude.{Option, Some, None, ◌==◌, nat_le}
 use Rattle.std.proofs.lemmas.Bool.{le-leb, lt-leb, cases_eq, cases_lt}
 use Rattle.std.proofs.lemmas.List.{append-nil}
 use Rattle.std.proofs.lemmas.List.Elements.{filter-append}
 use Rattle.sched_base.specs.KeyedList.{KeyedItem}
 use Rattle.eb_arena.specs.declared.links.Target.{Target}
-use Rattle.eb_arena.specs.declared.links.Target.TheVariants as targets
 use Rattle.eb_arena.specs.declared.links.Place.{Place}
-use Rattle.eb_arena.specs.Links.{index_of, is_leaf}
-use Rattle.eb_arena.specs.Parts.{Parts, element_at}
+use Rattle.eb_arena.specs.Links.{index_of}
+use Rattle.eb_arena.specs.Parts.{Parts, up_of}
 use Rattle.eb_arena.specs.Shape.{Tree, tip, fork, items, Keys, Stands, list_of, list_below}
 use Rattle.eb_arena.specs.Way.{before, after, Leads}
 use Rattle.eb_arena.proofs.Reading.{list_below_is}
 use Rattle.eb_arena.proofs.Ways.{part_split}
 use Rattle.eb32_walk.specs.Ends.{IsTree, IsPlace, AtPlace, first_entry, last_entry}
 use Rattle.eb_arena.specs.Shape.{AllKeys}
-use Rattle.eb32_walk.specs.Search.{IsFound, own_key, up_of}
+use Rattle.eb32_walk.specs.Search.{IsFound, own_key}
 use Rattle.eb32_walk.proofs.Firsts.{first_of, last_of}
 use Rattle.eb_arena.proofs.Keyed.{all_items, all_map, filter_none, filter_all}
 use Rattle.eb32_walk.proofs.Up.{somewhere}
@@ -31,16 +30,6 @@ tree_fits_by a target place (fork i b l r) s = subst (λ n. n < length a.element
 
 pub tree_fits : (a : Parts) (target : Target) → IsTree a target → index_of target < length a.elements
 tree_fits a target h = tree_fits_by a target h.place h.tree h.stands
-
-pub up_of_node : (a : Parts) (target : Target) (b : Bool) → (target ≡ targets.Nothing → ⊥) → b ≡ is_leaf target → b ≡ false → (element_at a (index_of target)).node_p ≡ up_of a target
-up_of_node a targets.Nothing b n h g = absurd (n refl)
-up_of_node a (targets.Leaf i) b n h g = let x : true ≡ false = sym h ∙ g in cc
-up_of_node a (targets.Node i) b n h g = refl
-
-pub up_of_leaf : (a : Parts) (target : Target) (b : Bool) → (target ≡ targets.Nothing → ⊥) → b ≡ is_leaf target → b ≡ true → (element_at a (index_of target)).leaf_p ≡ up_of a target
-up_of_leaf a targets.Nothing b n h g = absurd (n refl)
-up_of_leaf a (targets.Leaf i) b n h g = refl
-up_of_leaf a (targets.Node i) b n h g = let x : true ≡ false = sym g ∙ h in cc
 
 -- what was found is a tree, which hangs at a place
 pub found_tree : (a : Parts) (q key : ℕ) (part : Target) → IsFound a q key part → IsTree a part

@@ -3,9 +3,7 @@ use Rattle.std.specs.Prelude.{◌≡◌, ℕ, ◌/◌, ◌%◌, ◌^◌, ◌<◌
 use Rattle.eb_arena.specs.declared.links.Side.{Side}
 use Rattle.eb_arena.specs.declared.links.Side.TheVariants as sides
 use Rattle.eb_arena.specs.declared.links.Target.{Target}
-use Rattle.eb_arena.specs.declared.links.Target.TheVariants as targets
 use Rattle.eb_arena.specs.declared.links.Place.{Place}
-use Rattle.eb_arena.specs.declared.links.Place.TheVariants as places
 use Rattle.eb_arena.specs.Links.{index_of}
 use Rattle.eb_arena.specs.Parts.{Parts, element_at}
 use Rattle.eb_arena.specs.Shape.{Tree, items, Keys, AllKeys, Stands, Split, list_of}
@@ -14,12 +12,6 @@ use Rattle.eb_arena.specs.Way.{Step, plug, before, after, Leads}
 -- the key of the entry whose leaf or node is the target
 abbrev pub own_key : Parts → Target → ℕ
 own_key a target = (element_at a (index_of target)).key
-
--- where a target's element says that it hangs
-abbrev pub up_of : Parts → Target → Place
-up_of a targets.Nothing = places.Nowhere
-up_of a (targets.Leaf i) = (element_at a i).leaf_p
-up_of a (targets.Node i) = (element_at a i).node_p
 
 -- the side of a node, of its bit and the key of its entry, to which a key belongs; none where they differ above the bit
 abbrev pub turn_of : ℕ → ℤ → ℕ → Option Side

@@ -3,10 +3,10 @@
 ghost use Rattle.std.specs.Prelude.{◌≡◌, ◌<◌, ◌==◌, nat_le, [], filter, length, IfSome, MatchOption};
 ghost use Rattle.eb_arena.specs.Shape.{HasShape, IsBit, list_of};
 ghost use Rattle.eb32_walk.specs.Ends.{IsIn, IsTree, first_entry, last_entry};
-ghost use Rattle.eb32_walk.specs.Search.{IsFound, own_key, turn_of, up_of};
+ghost use Rattle.eb32_walk.specs.Search.{IsFound, own_key, turn_of};
 
 use crate::ends::{end_below, neighbour};
-use eb_arena::{Arena, Element, Link, Side, Target, Up};
+use eb_arena::{Arena, Element, Link, Side, Target};
 
 /// The side of a node to which the key belongs; none where it differs from the node's keys above
 /// the node's bit, or where the node's keys are equal.
@@ -51,19 +51,6 @@ fn seek(arena: &Arena, root: u32, key: u32) -> Option<Link>
     Some(part)
 }
 
-/// Where a part of a tree hangs.
-fn place_of(arena: &Arena, part: Link) -> Up
-    requires { IsTree arena.now part }
-    ensures { result ≡ up_of arena.now part }
-{
-    let element = arena.element(part.index());
-    if part.is_leaf() {
-        element.leaf_p
-    } else {
-        element.node_p
-    }
-}
-
 /// The key of the entry whose leaf or node is the part.
 fn key_at(arena: &Arena, part: Link) -> u32
     requires { IsTree arena.now part }
@@ -98,7 +85,7 @@ pub fn lookup_ge(arena: &Arena, root: u32, key: u32) -> Option<u32>
     if key <= key_at(arena, part) {
         Some(end_below(arena, part, Side::Left))
     } else {
-        neighbour(arena, place_of(arena, part), Side::Right)
+        neighbour(arena, arena.place_of(part), Side::Right)
     }
 }
 
@@ -113,6 +100,6 @@ pub fn lookup_le(arena: &Arena, root: u32, key: u32) -> Option<u32>
     if key_at(arena, part) <= key {
         Some(end_below(arena, part, Side::Right))
     } else {
-        neighbour(arena, place_of(arena, part), Side::Left)
+        neighbour(arena, arena.place_of(part), Side::Left)
     }
 }

@@ -9,9 +9,9 @@ use Rattle.eb_arena.specs.declared.links.Target.TheVariants as targets
 use Rattle.eb_arena.specs.declared.links.Place.{Place}
 use Rattle.eb_arena.specs.declared.links.Place.TheVariants as places
 use Rattle.eb_arena.specs.declared.element.Element.{Element}
-use Rattle.eb_arena.specs.Parts.{Parts, element_at, with_element, unused}
+use Rattle.eb_arena.specs.Parts.{Parts, element_at, with_element, unused, hung}
 use Rattle.eb_arena.specs.Shape.{Tree, tip, fork, Stands, HasNode}
-use Rattle.eb_arena.specs.Laws.{SameLeaf, SameOn, hung}
+use Rattle.eb_arena.specs.Laws.{SameLeaf, SameOn}
 use Rattle.eb_arena.proofs.Reading.{same_tree}
 
 pub kept : (a z : Parts) (target : Target) (place : Place) (t : Tree) → length z.elements ≡ length a.elements → SameOn a z t → Stands a target place t → Stands z target place t

@@ -1,9 +1,9 @@
 -- Keys never fall along the items of a tree.
-use Rattle.std.proofs.Common.{◌≡◌, ℕ, zero, suc, ◌+◌, ◌*◌, ◌/◌, ◌^◌, ◌<◌, ◌≤◌, List, [], ◌∷◌, ◌++◌, length, get_or, sym, subst, arith}
+use Rattle.std.proofs.Common.{◌≡◌, ℕ, ◌+◌, ◌*◌, ◌/◌, ◌^◌, ◌<◌, ◌≤◌, List, [], ◌∷◌, ◌++◌, length, sym, subst, arith}
 use Rattle.std.specs.Prelude.{ℤ, pos, negsuc, Option, Some, None}
-use Rattle.std.proofs.lemmas.Bool.{le-leb}
 use Rattle.std.proofs.lemmas.Nat.{pow_pos}
-use Rattle.sched_base.specs.KeyedList.{KeyedItem, IsOrdered}
+use Rattle.std.specs.List.{AllByRecursion}
+use Rattle.sched_base.specs.KeyedList.{KeyedItem, IsRising}
 use Rattle.eb_arena.specs.Parts.{Parts}
 use Rattle.eb_arena.specs.Shape.{Tree, tip, fork, items, items_of, Keys, AllKeys, Split, DividesAt, Equals, IsRoot, HasShape, list_of}
 use Rattle.eb_arena.proofs.Trees.{keys_map, lt_by_div}
@@ -43,22 +43,19 @@ rising (fork i (negsuc n) l r) s =
     let u : AllUnder (items l) (items r) = sides_rise (negsuc n) l r (λ k. k ≡ d.k) (λ k. k ≡ d.k) d.left d.right (λ x y p q. omega arith) in
     rising-append (items l) (items r) (rising l s.3) (rising r s.4) u
 
-key_from : (k : ℕ) (xs : List KeyedItem) (j : ℕ) (d : KeyedItem) → AllKeys (λ m. k ≤ m) xs → j < length xs → k ≤ (get_or xs j d).key
-key_from k [] j d h f = absurd (omega arith)
-key_from k (x ∷ xs) zero d h f = h.0
-key_from k (x ∷ xs) (suc j) d h f = key_from k xs j d h.1 (omega arith)
+all_items_by : (k : ℕ) (xs : List KeyedItem) → AllKeys (λ m. k ≤ m) xs → AllByRecursion (λ y. k ≤ y.key) xs
+all_items_by k [] h = tt
+all_items_by k (x ∷ xs) h = (h.0, all_items_by k xs h.1)
 
-pairs : (xs : List KeyedItem) (i j : ℕ) (d : KeyedItem) → Rising xs → i < j → j < length xs → (get_or xs i d).key ≤ (get_or xs j d).key
-pairs [] i j d h f g = absurd (omega arith)
-pairs (x ∷ xs) i zero d h f g = absurd (omega arith)
-pairs (x ∷ xs) zero (suc j) d h f g = key_from x.key xs j d h.0 (omega arith)
-pairs (x ∷ xs) (suc i) (suc j) d h f g = pairs xs i j d h.1 (omega arith) (omega arith)
+is_rising : (xs : List KeyedItem) → Rising xs → IsRising xs
+is_rising [] h = tt
+is_rising (x ∷ xs) h = (all_items_by x.key xs h.0, is_rising xs h.1)
 
 root_rises : (o : Option Tree) (a : Parts) (q : ℕ) → IsRoot a q o → Rising (items_of o)
 root_rises None a q h = tt
 root_rises (Some t) a q h = rising t h.1
 
-pub ordered : (a : Parts) (q n : ℕ) → HasShape a → q < length a.links → IsOrdered (record { items = list_of a q; insertions = n })
-ordered a q n h f =
+pub ordered : (a : Parts) (q : ℕ) → HasShape a → q < length a.links → IsRising (list_of a q)
+ordered a q h f =
     let r : Rising (list_of a q) = subst Rising (sym (list_of_is a q (h.0 q) (h.1.roots q f))) (root_rises (h.0 q) a q (h.1.roots q f)) in
-    λ i j d lt g. le-leb (get_or (list_of a q) i d).key (get_or (list_of a q) j d).key (pairs (list_of a q) i j d r lt g)
+    is_rising (list_of a q) r

@@ -1,12 +1,12 @@
 -- What holds of every arena that has the shape (docs/TREES.md, "Laws").
 use Rattle.std.specs.Prelude.{◌≡◌, ◌≢◌, ℕ, ◌<◌, List, ◌∷◌, ◌++◌, length, Option}
-use Rattle.sched_base.specs.KeyedList.{KeyedItem, IsOrdered}
+use Rattle.sched_base.specs.KeyedList.{KeyedItem, IsRising}
 use Rattle.eb_arena.specs.declared.links.Side.TheVariants as sides
 use Rattle.eb_arena.specs.declared.links.Target.{Target}
 use Rattle.eb_arena.specs.declared.links.Target.TheVariants as targets
 use Rattle.eb_arena.specs.declared.links.Place.{Place}
 use Rattle.eb_arena.specs.declared.links.Place.TheVariants as places
-use Rattle.eb_arena.specs.Parts.{Parts, element_at, with_element}
+use Rattle.eb_arena.specs.Parts.{Parts, element_at, hung}
 use Rattle.eb_arena.specs.Shape.{Tree, tip, fork, items_of, Stands, Shape, HasShape, InSome, HasLeaf, HasNode, list_of}
 use Rattle.eb_arena.specs.Way.{Step, Leads}
 
@@ -58,12 +58,6 @@ abbrev pub ChangesElsewhereKeep : Type 0
 ChangesElsewhereKeep =
     (a z : Parts) (target : Target) (place : Place) (t : Tree) → length z.elements ≡ length a.elements → SameOn a z t → Stands a target place t → Stands z target place t
 
--- the arena with another link up at the part that a target names
-abbrev pub hung : Parts → Target → Place → Parts
-hung a targets.Nothing place = a
-hung a (targets.Leaf i) place = with_element a i (record (element_at a i) { leaf_p = place })
-hung a (targets.Node i) place = with_element a i (record (element_at a i) { node_p = place })
-
 -- a part whose link up is rewritten moves whole
 abbrev pub PartsMoveWhole : Type 0
 PartsMoveWhole =
@@ -93,4 +87,4 @@ PartsInTreesHang =
 
 -- keys never fall along a root's list
 abbrev pub ListsAreOrdered : Type 0
-ListsAreOrdered = (a : Parts) (q n : ℕ) → HasShape a → q < length a.links → IsOrdered (record { items = list_of a q; insertions = n })
+ListsAreOrdered = (a : Parts) (q : ℕ) → HasShape a → q < length a.links → IsRising (list_of a q)

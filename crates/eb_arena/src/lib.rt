@@ -5,6 +5,7 @@ mod arena;
 mod element;
 mod laws;
 mod links;
+mod moves;
 
 pub use arena::Arena;
 pub use element::Element;

@@ -10,6 +10,7 @@ mod names;
 mod plain_lists;
 mod reason_set;
 mod standard;
+mod steps;
 mod streams;
 
 pub use gates::{Gate, OpenGate};
@@ -20,4 +21,5 @@ pub use names::{CallerId, Class, TaskId};
 pub use plain_lists::PlainLists;
 pub use reason_set::Reasons;
 pub use standard::{StdSink, StdSource};
+pub use steps::Steps;
 pub use streams::{Failed, Sink, Source};
