@@ -1,7 +1,7 @@
 //! The program over streams in memory.
 
 use crate::{Status, taskrun};
-use sched_base::{MemSink, MemSource, OpenGate};
+use sched_base::{MemSink, MemSource, OpenGate, StdSink, StdSource};
 use std::alloc::{AllocError, Global};
 use std::test::Fail;
 
@@ -173,5 +173,24 @@ fn fills_a_small_sink(rt: HostRuntime) -> Result<(), Fail> {
     assert_eq!(rt; outcome.code, 4);
     assert_eq!(rt; outcome.text.len(), 40);
     assert!(rt; is_front(&outcome.text, SELF_WAKE_TEXT));
+    Ok(())
+}
+
+#[test]
+fn carries_bytes_over_std(rt: HostRuntime) -> Result<(), Fail> {
+    let words = words_of(rt.alloc(), "run")?;
+    let mut text = Vec::new(rt.alloc());
+    let mut small = [0u8; 40];
+    let mut err = StdSink::new(Vec::<u8>::new(rt.alloc()));
+    let mut src = StdSource::new(SELF_WAKE.as_bytes());
+    let mut out = StdSink::new(&mut text);
+    let whole = taskrun(rt.alloc(), &words, &mut src, &mut out, &mut err, &OpenGate);
+    let mut src = StdSource::new(SELF_WAKE.as_bytes());
+    let mut out = StdSink::new(&mut small[..]);
+    let full = taskrun(rt.alloc(), &words, &mut src, &mut out, &mut err, &OpenGate);
+    assert_eq!(rt; whole, Status::Done);
+    assert_eq!(rt; text.as_slice(), SELF_WAKE_TEXT.as_bytes());
+    assert_eq!(rt; full, Status::WriteFault);
+    assert!(rt; is_front(&small, SELF_WAKE_TEXT));
     Ok(())
 }
