@@ -14,6 +14,9 @@ pub mod WordsBack
 pub mod SoFarSaid
 pub mod ReadBack
 pub mod Limit
+pub mod NameAt
+pub mod ListText
+pub mod LineTexts
 pub mod RangeLaws
 pub mod LineLoop
 pub mod ListViews
