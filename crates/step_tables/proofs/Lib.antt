@@ -17,6 +17,8 @@ pub mod Limit
 pub mod NameAt
 pub mod ListText
 pub mod LineTexts
+pub mod WordsAgain
+pub mod ShapesAgain
 pub mod RangeLaws
 pub mod LineLoop
 pub mod ListViews
