@@ -14,6 +14,11 @@ pub mod WordsBack
 pub mod SoFarSaid
 pub mod ReadBack
 pub mod Limit
+pub mod NameAt
+pub mod ListText
+pub mod LineTexts
+pub mod WordsAgain
+pub mod ShapesAgain
 pub mod RangeLaws
 pub mod LineLoop
 pub mod ListViews

@@ -14,11 +14,11 @@ mapped_same : (f g : ℕ → ℕ) (o : Option ℕ) → ((k : ℕ) → f k ≡ g 
 mapped_same f g None e = refl
 mapped_same f g (Some k) e = ap Some (e k)
 
-chosen_true : {A : Type 0} (b : Bool) (x y : A) → b ≡ true → cond b x y ≡ x
+pub chosen_true : {A : Type 0} (b : Bool) (x y : A) → b ≡ true → cond b x y ≡ x
 chosen_true true x y e = refl
 chosen_true false x y e = absurd (cc)
 
-chosen_false : {A : Type 0} (b : Bool) (x y : A) → b ≡ false → cond b x y ≡ y
+pub chosen_false : {A : Type 0} (b : Bool) (x y : A) → b ≡ false → cond b x y ≡ y
 chosen_false true x y e = absurd (cc)
 chosen_false false x y e = refl
 

@@ -118,6 +118,15 @@ body_said tasks events =
 abbrev pub line_text : List Word → List ℕ
 line_text ws = join_with_byte 32 ws ++ 10 ∷ []
 
+-- the text of lines
+abbrev pub lines_text : List Said → List ℕ
+lines_text lines = flat_map (λ said. line_text (said_words said)) lines
+
 -- the text of a script: the one that is read as this script
 unfoldable pub script_text : Script → List ℕ
-script_text s = codes "taskscript 1" ++ 10 ∷ flat_map (λ said. line_text (said_words said)) (settings_said s ++ body_said s.tasks s.events)
+script_text s = codes "taskscript 1" ++ 10 ∷ lines_text (settings_said s ++ body_said s.tasks s.events)
+
+-- words, each behind a space
+abbrev pub spaced : List Word → List ℕ
+spaced [] = []
+spaced (word ∷ words) = 32 ∷ (word ++ spaced words)

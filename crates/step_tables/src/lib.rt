@@ -14,6 +14,7 @@ mod shapes;
 mod tables;
 mod values;
 mod words;
+mod writing;
 
 pub use faults::{ScriptError, ScriptFault};
 pub use lists::{Actions, Events, Name, Rows, Tasks};

@@ -348,7 +348,7 @@ fn row_line<'a>(alloc: Global, words: Words<'a>) -> Result<Option<RowLine<'a>>, 
 }
 
 /// The name of a setting.
-fn setting_name(setting: Setting) -> &'static [u8]
+pub(crate) fn setting_name(setting: Setting) -> &'static [u8]
     ensures { result.now ≡ setting_name setting }
 {
     match setting {

@@ -64,11 +64,14 @@ const FAULTS: [(&str, u32, u8); 12] = [
 ];
 
 #[test]
-fn reads_scripts_and_names_first_faults(rt: HostRuntime) -> Result<(), Fail> {
+fn reads_and_writes_scripts_and_names_first_faults(rt: HostRuntime) -> Result<(), Fail> {
     for (text, tasks, events) in SCRIPTS {
         let script = Script::read(rt.alloc(), text.as_bytes())?;
         assert_eq!(rt; script.tasks.as_slice().len(), tasks, "{text}");
         assert_eq!(rt; script.events.as_slice().len(), events, "{text}");
+        let mut written = Vec::new(rt.alloc());
+        script.write(&mut written)?;
+        assert_eq!(rt; written.as_slice(), text.as_bytes(), "{text}");
     }
     for (end, line, kind) in FAULTS {
         let head = "taskscript 1\nworkers 1\ndepth 200\nstart 0\nstep 4\nrounds 10\n";

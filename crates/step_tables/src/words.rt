@@ -199,7 +199,7 @@ pub(crate) fn class_of(word: &[u8]) -> Option<Class>
 
 /// The name of the reason at a bit below 7.
 #[tactic(auto, unfolding(crate::specs::Words::reason_names))]
-fn reason_name(bit: u32) -> &'static [u8]
+pub(crate) fn reason_name(bit: u32) -> &'static [u8]
     requires { bit < 7 }
     ensures { slice_get reason_names bit ≡ Some result.now }
 {

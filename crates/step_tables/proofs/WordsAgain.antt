@@ -1,0 +1,264 @@
+-- From values to words, and back to the same values.
+use Rattle.std.proofs.Common.{◌≡◌, ℕ, suc, zero, ◌+◌, ◌*◌, ◌-◌, ◌^◌, ◌≤◌, ◌<◌, Bool, true, false, cond, List, [], ◌∷◌, ◌++◌, length, get_or, refl, ap, sym, ◌∙◌, arith, inl, inr, ◌⊎◌, subst, lit<, lit≤, append-nil}
+use Rattle.std.specs.Prelude.{Option, Some, None, option_map, is_none, unwrap_or, bytes_eq, not, ◌&&◌, ◌||◌, ◌==◌, nat_lt, nat_le, decimal, codes, ℤ, pos, negsuc, if◌then◌else◌}
+use Rattle.std.specs.List.{list_all, list_any, join_with_byte, slice_split, onto_first}
+use Rattle.std.specs.Char.{is_ascii_digit, is_ascii_lowercase, digit_value}
+use Rattle.std.specs.Fmt.{signed_decimal}
+use Rattle.std.specs.Str.Parse.{digits_value, AllDigits}
+use Rattle.std.proofs.lemmas.Bool.Decides.{nat_tests}
+use Rattle.std.proofs.lemmas.List.Folds.{list_all-append}
+use Rattle.std.proofs.lemmas.Fmt.{digits_value-decimal, digits_decimal, decimal_digit, decimal_nonempty, first_decimal, length-decimal-le}
+use Rattle.std.proofs.lemmas.Str.Parse.{numerals_by_value, tells_digits}
+use Rattle.sched_base.specs.declared.names.Class.{Class}
+use Rattle.sched_base.specs.declared.names.Class.TheVariants.{Urgent, Normal, Bulk, Heavy}
+use Rattle.step_tables.specs.Words.{Word, ◌>>=◌, only_if, pieces, is_empty, words_of, is_plain, number_of, below_zero, signed_of, is_name_byte, is_name, bits_of, reason_names, reasons_of, class_of}
+use Rattle.step_tables.specs.Text.{class_name, reasons_in, reasons_text}
+use Rattle.step_tables.specs.Judging.{value, signed_value, no_number, no_signed, reasons_named}
+use Rattle.step_tables.proofs.RowsOf.{both, first_of_both, second_of_both}
+
+-- a byte of a word: ASCII, no space and no line feed
+abbrev pub is_word_byte : ℕ → Bool
+is_word_byte b = nat_lt b 128 && (not (b == 32) && not (b == 10))
+
+-- a word that a line can have
+abbrev pub is_word : Word → Bool
+is_word w = not (is_empty w) && list_all is_word_byte w
+
+-- each element of a list passes a test that is implied
+pub all_implied : (p q : ℕ → Bool) (xs : List ℕ) → ((x : ℕ) → p x ≡ true → q x ≡ true) → list_all p xs ≡ true → list_all q xs ≡ true
+all_implied p q [] h e = refl
+all_implied p q (x ∷ xs) h e = both _ _ (h x (first_of_both _ _ e)) (all_implied p q xs h (second_of_both _ _ e))
+
+-- digits
+digit_value_small : (c : ℕ) → digit_value c < 10 → is_ascii_digit c ≡ true
+digit_value_small c h = grind (arith, nat_tests)
+
+pub digits_test : (ds : List ℕ) → AllDigits 10 ds → list_all is_ascii_digit ds ≡ true
+digits_test [] a = refl
+digits_test (d ∷ ds) a = both _ _ (digit_value_small d a.0) (digits_test ds a.1)
+
+own_digits : (n : ℕ) → n < 10 ^ 10 → list_all is_ascii_digit (decimal n) ≡ true
+own_digits n h = digits_test (decimal n) (digits_decimal (numerals_by_value (AllDigits 10) tells_digits) n (omega arith))
+
+-- what is written of a number is one digit, or begins with another than 0
+plain_decimal : (ds : List ℕ) → 0 < length ds → (1 < length ds → 48 < get_or ds 0 0) → is_plain ds ≡ true
+plain_decimal [] some first = absurd (omega arith)
+plain_decimal (c ∷ []) some first = refl
+plain_decimal (c ∷ d ∷ ds) some first = not_zero c (first (omega arith))
+  where
+    not_zero : (k : ℕ) → 48 < k → not (k == 48) ≡ true
+    not_zero k h = grind (arith, nat_tests)
+
+plain_number : (n : ℕ) → n < 10 ^ 10 → is_plain (decimal n) ≡ true
+plain_number zero h = ap is_plain (decimal_digit 0 (lit< tt))
+plain_number (suc n) h = plain_decimal (decimal (suc n)) (decimal_nonempty (suc n) (omega arith)) (λ more. first_decimal (suc n) (omega arith) (omega arith))
+
+-- a number of at most ten digits is read as it was written
+pub number_again : (n : ℕ) → n < 10 ^ 10 → number_of (decimal n) ≡ Some n
+unfolding number_of
+number_again n h =
+  let short : length (decimal n) ≤ 10 = length-decimal-le 10 n (lit< tt) h (omega arith) in
+  let same : digits_value 10 (decimal n) ≡ n = digits_value-decimal (numerals_by_value (AllDigits 10) tells_digits) n (omega arith) in
+  (λ i. only_if (both (is_plain (decimal n)) _ (plain_number n h) (both (list_all is_ascii_digit (decimal n)) _ (own_digits n h) (at_most (length (decimal n)) short)) i) (same i))
+  where
+    at_most : (k : ℕ) → k ≤ 10 → nat_le k 10 ≡ true
+    at_most k e = grind (arith, nat_tests)
+
+pub value_again : (n : ℕ) → n < 10 ^ 10 → value (decimal n) ≡ n
+unfolding value
+value_again n h = ap (λ o. unwrap_or o 0) (number_again n h)
+
+pub is_number : (n : ℕ) → n < 10 ^ 10 → no_number (decimal n) ≡ false
+unfolding no_number
+is_number n h = ap (λ o. is_none o) (number_again n h)
+
+digit_not_minus : (ds : List ℕ) → 0 < length ds → list_all is_ascii_digit ds ≡ true → (o : Option ℕ) → number_of ds ≡ o → signed_of ds ≡ option_map pos o
+unfolding signed_of
+digit_not_minus [] some e o is = absurd (omega arith)
+digit_not_minus (c ∷ ds) some e o is = go (c == 45) (not_minus c (first_of_both _ _ e))
+  where
+    not_minus : (k : ℕ) → is_ascii_digit k ≡ true → (k == 45) ≡ false
+    not_minus k h = grind (arith, nat_tests)
+    go : (b : Bool) → b ≡ false → cond b (number_of ds >>= below_zero) (option_map pos (number_of (c ∷ ds))) ≡ option_map pos o
+    go true h = absurd (cc)
+    go false h = ap (option_map pos) is
+
+-- how far a signed number is from 0
+abbrev pub size : ℤ → ℕ
+size (pos n) = n
+size (negsuc n) = suc n
+
+-- a signed number is read as it was written
+pub signed_again : (z : ℤ) → size z < 10 ^ 10 → signed_of (signed_decimal z) ≡ Some z
+unfolding signed_of
+signed_again (pos n) h = digit_not_minus (decimal n) (decimal_nonempty n (omega arith)) (own_digits n h) (Some n) (number_again n h)
+signed_again (negsuc n) h = ap (λ o. o >>= below_zero) (number_again (suc n) h)
+
+pub signed_value_again : (z : ℤ) → size z < 10 ^ 10 → signed_value (signed_decimal z) ≡ z
+unfolding signed_value
+signed_value_again z h = ap (λ o. unwrap_or o (pos 0)) (signed_again z h)
+
+pub is_signed : (z : ℤ) → size z < 10 ^ 10 → no_signed (signed_decimal z) ≡ false
+unfolding no_signed
+is_signed z h = ap (λ o. is_none o) (signed_again z h)
+
+-- numbers are words
+digit_is_word : (b : ℕ) → is_ascii_digit b ≡ true → is_word_byte b ≡ true
+digit_is_word b e = grind (arith, nat_tests)
+
+some_bytes : (w : Word) → 0 < length w → not (is_empty w) ≡ true
+some_bytes [] h = absurd (omega arith)
+some_bytes (b ∷ w) h = refl
+
+pub number_is_word : (n : ℕ) → n < 10 ^ 10 → is_word (decimal n) ≡ true
+number_is_word n h = both _ _ (some_bytes (decimal n) (decimal_nonempty n (omega arith))) (all_implied is_ascii_digit is_word_byte (decimal n) digit_is_word (own_digits n h))
+
+pub signed_is_word : (z : ℤ) → size z < 10 ^ 10 → is_word (signed_decimal z) ≡ true
+signed_is_word (pos n) h = number_is_word n h
+signed_is_word (negsuc n) h = second_of_both (not (is_empty (decimal (suc n)))) _ (number_is_word (suc n) h)
+
+-- names are words
+name_byte_is_word : (b : ℕ) → is_name_byte b ≡ true → is_word_byte b ≡ true
+name_byte_is_word b e = grind (arith, nat_tests)
+
+letter_is_word : (b : ℕ) → is_ascii_lowercase b ≡ true → is_word_byte b ≡ true
+letter_is_word b e = grind (arith, nat_tests)
+
+pub name_is_word : (w : Word) → is_name w ≡ true → is_word w ≡ true
+unfolding is_name
+name_is_word [] e = absurd (cc)
+name_is_word (c ∷ cs) e =
+  both (is_word_byte c) _ (letter_is_word c (first_of_both _ _ e)) (all_implied is_name_byte is_word_byte cs name_byte_is_word (second_of_both (nat_le (length cs) 15) _ (second_of_both (is_ascii_lowercase c) _ e)))
+
+-- a test holds of each number below the limit
+abbrev all_below : (ℕ → Bool) → ℕ → Bool
+all_below test zero = true
+all_below test (suc n) = test n && all_below test n
+
+below_passes : (test : ℕ → Bool) (n k : ℕ) → all_below test n ≡ true → k < n → test k ≡ true
+below_passes test zero k e h = absurd (omega arith)
+below_passes test (suc n) k e h = go (λ f. below_passes test n k (second_of_both (test n) _ e) f) (nat_lt k n) refl
+  where
+    less : (a b : ℕ) → nat_lt a b ≡ true → a < b
+    less a b f = grind (arith, nat_tests)
+    last : (a b : ℕ) → nat_lt a b ≡ false → a < suc b → b ≡ a
+    last a b f g = grind (arith, nat_tests)
+    go : (k < n → test k ≡ true) → (b : Bool) → nat_lt k n ≡ b → test k ≡ true
+    go before true f = before (less k n f)
+    go before false f = ap test (sym (last k n f h)) ∙ first_of_both (test n) _ e
+
+abbrev is_value : ℕ → Option ℕ → Bool
+is_value k None = false
+is_value k (Some n) = n == k
+
+reasons_pass : all_below (λ k. k == 0 || (is_value k (reasons_of (reasons_text k)) && is_word (reasons_text k))) 128 ≡ true
+unfolding reasons_of reasons_text
+reasons_pass = refl
+
+reasons_fine : (k : ℕ) → 0 < k → k < 128 → (is_value k (reasons_of (reasons_text k)) && is_word (reasons_text k)) ≡ true
+reasons_fine k some few = go (k == 0) refl (below_passes (λ j. j == 0 || (is_value j (reasons_of (reasons_text j)) && is_word (reasons_text j))) 128 k reasons_pass few)
+  where
+    none : (a : ℕ) → (a == 0) ≡ true → 0 < a → ⊥
+    none a e h = grind (arith, nat_tests)
+    go : (b : Bool) → (k == 0) ≡ b → (b || (is_value k (reasons_of (reasons_text k)) && is_word (reasons_text k))) ≡ true → (is_value k (reasons_of (reasons_text k)) && is_word (reasons_text k)) ≡ true
+    go true f g = absurd (none k f some)
+    go false f g = g
+
+-- a set of reasons is read as it was written
+pub reasons_again : (k : ℕ) → 0 < k → k < 128 → reasons_of (reasons_text k) ≡ Some k
+reasons_again k some few = go (reasons_of (reasons_text k)) (first_of_both _ _ (reasons_fine k some few))
+  where
+    same : (a b : ℕ) → (a == b) ≡ true → a ≡ b
+    same a b e = grind (arith, nat_tests)
+    go : (o : Option ℕ) → is_value k o ≡ true → o ≡ Some k
+    go None e = absurd (cc)
+    go (Some n) e = ap Some (same n k e)
+
+pub reasons_is_word : (k : ℕ) → 0 < k → k < 128 → is_word (reasons_text k) ≡ true
+reasons_is_word k some few = second_of_both (is_value k (reasons_of (reasons_text k))) _ (reasons_fine k some few)
+
+-- a class is read as it was written
+pub class_again : (c : Class) → class_of (class_name c) ≡ Some c
+unfolding class_of
+class_again Urgent = refl
+class_again Normal = refl
+class_again Bulk = refl
+class_again Heavy = refl
+
+pub class_is_word : (c : Class) → is_word (class_name c) ≡ true
+class_is_word Urgent = refl
+class_is_word Normal = refl
+class_is_word Bulk = refl
+class_is_word Heavy = refl
+
+-- bytes without the one at which they are cut are one piece
+pub one_piece : (at : ℕ) (w : List ℕ) → list_all (λ b. not (b == at)) w ≡ true → pieces at w ≡ w ∷ []
+one_piece at [] e = refl
+one_piece at (x ∷ w) e = go (x == at) (first_of_both _ _ e) (one_piece at w (second_of_both (not (x == at)) _ e))
+  where
+    go : (b : Bool) → not b ≡ true → pieces at w ≡ w ∷ [] → cond b ([] ∷ pieces at w) (onto_first x (pieces at w)) ≡ (x ∷ w) ∷ []
+    go true h others = absurd (cc)
+    go false h others = ap (onto_first x) others
+
+-- and so they are before the first such byte
+pub first_piece : (at : ℕ) (w rest : List ℕ) → list_all (λ b. not (b == at)) w ≡ true → pieces at (w ++ at ∷ rest) ≡ w ∷ pieces at rest
+first_piece at [] rest e = go (at == at) (same at)
+  where
+    same : (a : ℕ) → (a == a) ≡ true
+    same a = grind (arith, nat_tests)
+    go : (b : Bool) → b ≡ true → cond b ([] ∷ pieces at rest) (onto_first at (pieces at rest)) ≡ [] ∷ pieces at rest
+    go true h = refl
+    go false h = absurd (cc)
+first_piece at (x ∷ w) rest e = go (x == at) (first_of_both _ _ e) (first_piece at w rest (second_of_both (not (x == at)) _ e))
+  where
+    go : (b : Bool) → not b ≡ true → pieces at (w ++ at ∷ rest) ≡ w ∷ pieces at rest → cond b ([] ∷ pieces at (w ++ at ∷ rest)) (onto_first x (pieces at (w ++ at ∷ rest))) ≡ (x ∷ w) ∷ pieces at rest
+    go true h others = absurd (cc)
+    go false h others = ap (onto_first x) others
+
+-- words that a line can have
+abbrev pub are_words : List Word → Bool
+are_words ws = list_all is_word ws
+
+no_space : (b : ℕ) → is_word_byte b ≡ true → not (b == 32) ≡ true
+no_space b e = first_of_both _ _ (second_of_both (nat_lt b 128) _ e)
+
+no_feed : (b : ℕ) → is_word_byte b ≡ true → not (b == 10) ≡ true
+no_feed b e = second_of_both (not (b == 32)) _ (second_of_both (nat_lt b 128) _ e)
+
+word_bytes : (w : Word) → is_word w ≡ true → list_all is_word_byte w ≡ true
+word_bytes w e = second_of_both (not (is_empty w)) _ e
+
+words_cut : (w : Word) (ws : List Word) → are_words (w ∷ ws) ≡ true → pieces 32 (join_with_byte 32 (w ∷ ws)) ≡ w ∷ ws
+words_cut w [] e = one_piece 32 w (all_implied is_word_byte (λ b. not (b == 32)) w no_space (word_bytes w (first_of_both _ _ e)))
+words_cut w (v ∷ ws) e =
+  first_piece 32 w (join_with_byte 32 (v ∷ ws)) (all_implied is_word_byte (λ b. not (b == 32)) w no_space (word_bytes w (first_of_both _ _ e)))
+  ∙ ap (λ r. w ∷ r) (words_cut v ws (second_of_both (is_word w) _ e))
+
+-- a test that words pass, and the spaces between them
+words_pass : (test : ℕ → Bool) (ws : List Word) → test 32 ≡ true → ((b : ℕ) → is_word_byte b ≡ true → test b ≡ true) → are_words ws ≡ true → list_all test (join_with_byte 32 ws) ≡ true
+words_pass test [] space implied e = refl
+words_pass test (w ∷ []) space implied e = all_implied is_word_byte test w implied (word_bytes w (first_of_both _ _ e))
+words_pass test (w ∷ v ∷ ws) space implied e =
+  list_all-append test w (32 ∷ join_with_byte 32 (v ∷ ws))
+  ∙ both _ _ (all_implied is_word_byte test w implied (word_bytes w (first_of_both _ _ e))) (both (test 32) _ space (words_pass test (v ∷ ws) space implied (second_of_both (is_word w) _ e)))
+
+none_empty : (ws : List Word) → are_words ws ≡ true → list_any is_empty ws ≡ false
+none_empty [] e = refl
+none_empty (w ∷ ws) e = step (is_empty w) (list_any is_empty ws) (first_of_both (not (is_empty w)) _ (first_of_both (is_word w) _ e)) (none_empty ws (second_of_both (is_word w) _ e))
+  where
+    step : (a b : Bool) → not a ≡ true → b ≡ false → (a || b) ≡ false
+    step true b h f = absurd (cc)
+    step false b h f = f
+
+-- words are read as they were written
+pub words_again : (w : Word) (ws : List Word) → are_words (w ∷ ws) ≡ true → words_of (join_with_byte 32 (w ∷ ws)) ≡ Some (w ∷ ws)
+unfolding words_of
+words_again w ws e =
+  let cut = words_cut w ws e in
+  let ascii = words_pass (λ b. nat_lt b 128) (w ∷ ws) refl (λ b h. first_of_both _ _ h) e in
+  let whole : not (list_any is_empty (pieces 32 (join_with_byte 32 (w ∷ ws)))) ≡ true = ap (λ ps. not (list_any is_empty ps)) cut ∙ ap not (none_empty (w ∷ ws) e) in
+  λ i. only_if (both _ _ ascii whole i) (cut i)
+
+-- and have no line feed
+pub words_one_line : (ws : List Word) → are_words ws ≡ true → list_all (λ b. not (b == 10)) (join_with_byte 32 ws) ≡ true
+words_one_line ws e = words_pass (λ b. not (b == 10)) ws refl no_feed e

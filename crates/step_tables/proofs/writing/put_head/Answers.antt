@@ -1,0 +1,15 @@
+use Rattle.std.specs.Prelude.{codes, decimal}
+use Rattle.std.proofs.lemmas.Result.{on_ok_weaker}
+use Rattle.step_tables.specs.declared.shapes.Setting.TheVariants.{Workers, Depth, Start, Step, Rounds}
+use Rattle.step_tables.specs.Shapes.{sets}
+use Rattle.step_tables.specs.Text.{line_text, said_words}
+use Rattle.step_tables.proofs.LineTexts.{head_put}
+use Rattle.step_tables.proofs.writing.put_head.Goals as goal
+
+pub returns : goal.returns
+returns c = on_ok_weaker c.put_setting-5.result
+    (head_put (line_text (said_words (sets Workers (decimal c.args.script.now.workers)))) (line_text (said_words (sets Depth (decimal c.args.script.now.depth))))
+    (line_text (said_words (sets Start (decimal c.args.script.now.start)))) (line_text (said_words (sets Step (decimal c.args.script.now.step)))) (line_text (said_words (sets Rounds (decimal c.args.script.now.rounds))))
+    c.args.out.now.items c.put.new.out.items c.put_setting.new.out.items c.put_setting-2.new.out.items c.put_setting-3.new.out.items c.put_setting-4.new.out.items c.put_setting-5.new.out.items (codes "taskscript 1\n")
+    c.in_ok-put.ensures c.in_ok-put_setting.ensures c.in_ok-put_setting-2.ensures c.in_ok-put_setting-3.ensures c.in_ok-put_setting-4.ensures)
+    c.put_setting-5.ensures
