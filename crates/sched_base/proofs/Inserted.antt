@@ -1,7 +1,7 @@
 -- Insertions behind a front of a list, and what filters and joins make of them.
-use Rattle.std.proofs.Common.{◌≡◌, ℕ, ◌≤◌, ◌<◌, Bool, true, false, cond, not, leb, List, [], ◌∷◌, ◌++◌, map, refl, sym, ap, ◌∙◌, arith, inl, inr}
+use Rattle.std.proofs.Common.{◌≡◌, ℕ, ◌≤◌, ◌<◌, Bool, true, false, leb, List, [], ◌∷◌, ◌++◌, map, refl, sym, ap, arith, inl, inr}
 use Rattle.std.specs.List.{filter, AllByRecursion}
-use Rattle.std.proofs.lemmas.Bool.{cases_Bool, lt-leb, le-leb, leb-true, leb-false}
+use Rattle.std.proofs.lemmas.Bool.{cases_Bool, lt-leb, leb-true, leb-false}
 use Rattle.sched_base.specs.KeyedList.{KeyedItem, inserted, IsRising}
 
 -- a test that all items of a list answer alike
@@ -114,11 +114,11 @@ filter-inserted_in q key x (y ∷ ys) h rising =
         | inr m ↦ rw (k, m) (filter-inserted_in q key x ys h rising.1)
       ]
       | inr k ↦
-        let none : Answers false (λ (z : KeyedItem). leb z.key key) (filter q ys) = none_stays key y.key (filter q ys) (leb-false y.key key k) (all-filter (λ (z : KeyedItem). y.key ≤ z.key) q ys rising.0) in
-        elim (cases_Bool (q y)) [
-          | inl m ↦ rw (k, h, m) (rw k refl)
-          | inr m ↦ rw (k, h, m) (sym (inserted-first _ x (filter q ys) none))
-        ]
+          let none : Answers false (λ (z : KeyedItem). leb z.key key) (filter q ys) = none_stays key y.key (filter q ys) (leb-false y.key key k) (all-filter (λ (z : KeyedItem). y.key ≤ z.key) q ys rising.0) in
+          elim (cases_Bool (q y)) [
+            | inl m ↦ rw (k, h, m) (rw k refl)
+            | inr m ↦ rw (k, h, m) (sym (inserted-first _ x (filter q ys) none))
+          ]
     ]
 
 -- keys still never fall after an insertion
@@ -127,9 +127,9 @@ rising-inserted key x [] e rising = (tt, tt)
 rising-inserted key x (y ∷ ys) e rising =
     elim (cases_Bool (leb y.key key)) [
       | inl k ↦ let le : y.key ≤ key = leb-true y.key key k in
-        rw k (all-inserted (λ (z : KeyedItem). y.key ≤ z.key) _ x ys (omega arith) rising.0, rising-inserted key x ys e rising.1)
+          rw k (all-inserted (λ (z : KeyedItem). y.key ≤ z.key) _ x ys (omega arith) rising.0, rising-inserted key x ys e rising.1)
       | inr k ↦ let lt : key < y.key = leb-false y.key key k in
-        rw k ((omega arith, all-weaker (λ (z : KeyedItem). y.key ≤ z.key) (λ (z : KeyedItem). x.key ≤ z.key) ys (λ z le. omega arith) rising.0), rising)
+          rw k ((omega arith, all-weaker (λ (z : KeyedItem). y.key ≤ z.key) (λ (z : KeyedItem). x.key ≤ z.key) ys (λ z le. omega arith) rising.0), rising)
     ]
 
 -- and after a deletion

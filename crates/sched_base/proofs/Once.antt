@@ -1,8 +1,8 @@
 -- Items of a list in which no entry stands twice.
-use Rattle.std.proofs.Common.{◌≡◌, ℕ, ◌≤◌, ◌<◌, Bool, true, false, cond, not, eqb, leb, List, [], ◌∷◌, ◌++◌, Option, Some, None, refl, sym, ap, ◌∙◌, arith, inl, inr}
+use Rattle.std.proofs.Common.{◌≡◌, ℕ, Bool, true, false, not, eqb, List, [], ◌∷◌, ◌++◌, Some, None, refl, sym, ap, ◌∙◌, inl, inr}
 use Rattle.std.specs.Prelude.{◌⊎◌}
 use Rattle.std.specs.List.{filter, find, list_any, AllByRecursion}
-use Rattle.std.proofs.lemmas.Bool.{cases_Bool, or_parts, or_from, false≢true, eqb-true, eqb-false, eq-eqb, ne_eqb}
+use Rattle.std.proofs.lemmas.Bool.{cases_Bool, or_parts, false≢true, eqb-true, eqb-false, eq-eqb, ne_eqb}
 use Rattle.sched_base.specs.KeyedList.{KeyedItem, inserted, is_entry, IsOnce}
 use Rattle.sched_base.proofs.Inserted.{Answers}
 
@@ -141,25 +141,25 @@ pub once-append : (xs ys : List KeyedItem) → IsOnce xs → IsOnce ys → AllBy
 once-append [] ys p q r = q
 once-append (x ∷ xs) ys p q r = (held-append (is_entry x.entry) xs ys p.0 r.0, once-append xs ys p.1 q r.1)
   where
-  held-append : (t : KeyedItem → Bool) (xs ys : List KeyedItem) → list_any t xs ≡ false → list_any t ys ≡ false → list_any t (xs ++ ys) ≡ false
-  held-append t [] ys h k = k
-  held-append t (x ∷ xs) ys h k = let r = or_parts (t x) (list_any t xs) h in rw r.0 (held-append t xs ys r.1 k)
+    held-append : (t : KeyedItem → Bool) (xs ys : List KeyedItem) → list_any t xs ≡ false → list_any t ys ≡ false → list_any t (xs ++ ys) ≡ false
+    held-append t [] ys h k = k
+    held-append t (x ∷ xs) ys h k = let r = or_parts (t x) (list_any t xs) h in rw r.0 (held-append t xs ys r.1 k)
 
 -- two parts of a list that share no item share no entry
 pub parts_apart : (p q : KeyedItem → Bool) → ((x : KeyedItem) → p x ≡ true → q x ≡ false) → (xs : List KeyedItem) → IsOnce xs → AllByRecursion (λ (x : KeyedItem). list_any (is_entry x.entry) (filter q xs) ≡ false) (filter p xs)
 parts_apart p q other xs once =
     all_in (λ (x : KeyedItem). list_any (is_entry x.entry) (filter q xs) ≡ false) (filter p xs) (λ x h.
-      elim (cases_Bool (list_any (is_entry x.entry) (filter q xs))) [
-        | inl k ↦
+    elim (cases_Bool (list_any (is_entry x.entry) (filter q xs))) [
+      | inl k ↦
           let w = item_of_held x.entry (filter q xs) k in
           let one : Some x ≡ Some w.0 = sym (in_find x xs once (in_filtered p x xs h)) ∙ ap (λ e. find (is_entry e) xs) (sym w.2) ∙ in_find w.0 xs once (in_filtered q w.0 xs w.1) in
           let same : x ≡ w.0 = cc in
           let px : p x ≡ true = in_all (λ (y : KeyedItem). p y ≡ true) x (filter p xs) (passes p xs) h in
           let qw : q w.0 ≡ true = in_all (λ (y : KeyedItem). q y ≡ true) w.0 (filter q xs) (passes q xs) w.1 in
           absurd (false≢true (sym (other x px) ∙ ap q same ∙ qw))
-        | inr k ↦ k
-      ])
+      | inr k ↦ k
+    ])
   where
-  passes : (p : KeyedItem → Bool) (xs : List KeyedItem) → AllByRecursion (λ (y : KeyedItem). p y ≡ true) (filter p xs)
-  passes p [] = tt
-  passes p (x ∷ xs) = elim (cases_Bool (p x)) [ inl k ↦ rw k (k, passes p xs) | inr k ↦ rw k (passes p xs) ]
+    passes : (p : KeyedItem → Bool) (xs : List KeyedItem) → AllByRecursion (λ (y : KeyedItem). p y ≡ true) (filter p xs)
+    passes p [] = tt
+    passes p (x ∷ xs) = elim (cases_Bool (p x)) [ inl k ↦ rw k (k, passes p xs) | inr k ↦ rw k (passes p xs) ]
