@@ -4,6 +4,7 @@
 
 mod gates;
 mod keyed_lists;
+mod laws;
 mod memory;
 mod names;
 mod plain_lists;
@@ -13,6 +14,7 @@ mod streams;
 
 pub use gates::{Gate, OpenGate};
 pub use keyed_lists::KeyedLists;
+pub use laws::{deletions_keep_keyed, insertions_keep_keyed};
 pub use memory::{MemSink, MemSource};
 pub use names::{CallerId, Class, TaskId};
 pub use plain_lists::PlainLists;
