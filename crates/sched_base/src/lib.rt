@@ -11,6 +11,8 @@ mod plain_lists;
 mod reason_set;
 mod standard;
 mod streams;
+#[cfg(test)]
+mod tests;
 
 pub use gates::{Gate, OpenGate};
 pub use keyed_lists::KeyedLists;
