@@ -1,4 +1,6 @@
 pub mod SweepSteps
 pub mod Walk
 pub mod WalkItems
+pub mod WholeSweep
+pub mod Window
 mod Worked

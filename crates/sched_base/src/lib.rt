@@ -4,6 +4,7 @@
 
 mod gates;
 mod keyed_lists;
+mod laws;
 mod memory_in;
 mod memory_out;
 mod names;
@@ -12,9 +13,12 @@ mod reason_set;
 mod standard;
 mod steps;
 mod streams;
+#[cfg(test)]
+mod tests;
 
 pub use gates::{Gate, OpenGate};
 pub use keyed_lists::KeyedLists;
+pub use laws::{deletions_keep_keyed, insertions_keep_keyed};
 pub use memory_in::MemSource;
 pub use memory_out::MemSink;
 pub use names::{CallerId, Class, TaskId};
