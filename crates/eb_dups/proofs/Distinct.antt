@@ -1,14 +1,13 @@
 -- The parts of a tree are distinct, and those of different trees too.
-use Rattle.std.proofs.Common.{◌≡◌, ◌≢◌, ℕ, ◌+◌, ◌<◌, ◌⊎◌, inl, inr, List, [], ◌∷◌, ◌++◌, length, get_or, reverse, refl, sym, ap, ◌∙◌, subst, arith, append_assoc}
+use Rattle.std.proofs.Common.{◌≡◌, ℕ, ◌⊎◌, inl, inr, List, [], ◌∷◌, ◌++◌, get_or, reverse, refl, sym, ap, ◌∙◌, subst, append_assoc}
 use Rattle.std.specs.Prelude.{ℤ}
-use Rattle.std.proofs.lemmas.List.{reverse-append, append_cancel_right, append-nil}
-use Rattle.eb_arena.specs.declared.links.Side.TheVariants as sides
+use Rattle.std.proofs.lemmas.List.{reverse-append, append_cancel_right}
 use Rattle.eb_arena.specs.declared.links.Target.{Target}
 use Rattle.eb_arena.specs.declared.links.Place.{Place}
 use Rattle.eb_arena.specs.declared.links.Place.TheVariants as places
 use Rattle.eb_arena.specs.Parts.{Parts, element_at}
 use Rattle.eb_arena.specs.Shape.{Tree, tip, fork, Stands, Split, HasLeaf, HasNode, root_place}
-use Rattle.eb_arena.specs.Way.{Step, from_left, from_right, fill, plug, Leads}
+use Rattle.eb_arena.specs.Way.{Step, from_left, from_right, plug, Leads}
 use Rattle.eb_arena.proofs.Unique.{one_way, leads_somewhere}
 use Rattle.eb_arena.proofs.Frame.{not_below}
 
@@ -33,9 +32,9 @@ leaf_foot a q (fork i b l r) c target place e s w h =
     let up : Leads a q (element_at a i).node_p c = subst (λ p. Leads a q p c) (sym s.2) w in
     elim h [
       | inl g ↦ let f : LeafFoot a q (from_left i b r ∷ c) e = leaf_foot a q l (from_left i b r ∷ c) _ _ e s.4 (refl, s.1, s.3, s.5, up) g in
-        record { foot = f.foot ++ from_left i b r ∷ []; leads = subst (λ x. Leads a q (element_at a e).leaf_p x) (sym (append_assoc f.foot (from_left i b r ∷ []) c)) f.leads }
+          record { foot = f.foot ++ from_left i b r ∷ []; leads = subst (λ x. Leads a q (element_at a e).leaf_p x) (sym (append_assoc f.foot (from_left i b r ∷ []) c)) f.leads }
       | inr g ↦ let f : LeafFoot a q (from_right i b l ∷ c) e = leaf_foot a q r (from_right i b l ∷ c) _ _ e s.5 (refl, s.1, s.3, s.4, up) g in
-        record { foot = f.foot ++ from_right i b l ∷ []; leads = subst (λ x. Leads a q (element_at a e).leaf_p x) (sym (append_assoc f.foot (from_right i b l ∷ []) c)) f.leads }
+          record { foot = f.foot ++ from_right i b l ∷ []; leads = subst (λ x. Leads a q (element_at a e).leaf_p x) (sym (append_assoc f.foot (from_right i b l ∷ []) c)) f.leads }
     ]
 
 last_same : (f g c : List Step) (x y : Step) → f ++ x ∷ c ≡ g ++ y ∷ c → x ≡ y
@@ -67,13 +66,16 @@ sides_leaf a q i x b l r c target place s w h g =
 pub distinct : (a : Parts) (q : ℕ) (t : Tree) (c : List Step) (target : Target) (place : Place) → Stands a target place t → Leads a q place c → Split t → Distinct t
 distinct a q (tip e k) c target place s w p = tt
 distinct a q (fork i b l r) c target place s w p =
-    let up : Leads a q (element_at a i).node_p c = subst (λ p. Leads a q p c) (sym s.2) w in
-    (record {
-      leaves = λ x h g. sides_leaf a q i x b l r c target place s w h g;
-      nodes = λ x h g. sides_leaf a q i x b l r c target place s w (node_leaf l x p.3 h) (node_leaf r x p.4 g);
-    }, λ h. not_below a i b l r target place s (inl h), λ h. not_below a i b l r target place s (inr h),
+    let up : Leads a q (element_at a i).node_p c = subst (λ p. Leads a q p c) (sym s.2) w in (
+      record {
+        leaves = λ x h g. sides_leaf a q i x b l r c target place s w h g;
+        nodes = λ x h g. sides_leaf a q i x b l r c target place s w (node_leaf l x p.3 h) (node_leaf r x p.4 g);
+      },
+      λ h. not_below a i b l r target place s (inl h),
+      λ h. not_below a i b l r target place s (inr h),
       distinct a q l (from_left i b r ∷ c) _ _ s.4 (refl, s.1, s.3, s.5, up) p.3,
-      distinct a q r (from_right i b l ∷ c) _ _ s.5 (refl, s.1, s.3, s.4, up) p.4)
+      distinct a q r (from_right i b l ∷ c) _ _ s.5 (refl, s.1, s.3, s.4, up) p.4,
+    )
 
 pub part_distinct : (w : List Step) (t : Tree) → Distinct (plug w t) → Distinct t
 part_distinct [] t d = d
@@ -110,9 +112,9 @@ away (from_right i b l ∷ w) t d =
 pub roots_apart : (a : Parts) (q r : ℕ) (s z : Target) (t u : Tree) → Stands a s (root_place a q) t → Stands a z (root_place a r) u → Split t → Split u → (q ≡ r → ⊥) → NoShare t u
 roots_apart a q r s z t u h g p o n =
     let no : (x : ℕ) → HasLeaf x t → HasLeaf x u → ⊥ = λ x f d.
-      let v : LeafFoot a q [] x = leaf_foot a q t [] _ _ x h refl f in
-      let w : LeafFoot a r [] x = leaf_foot a r u [] _ _ x g refl d in
-      n (one_way a q r (element_at a x).leaf_p _ _ v.leads w.leads).0
+    let v : LeafFoot a q [] x = leaf_foot a q t [] _ _ x h refl f in
+    let w : LeafFoot a r [] x = leaf_foot a r u [] _ _ x g refl d in
+    n (one_way a q r (element_at a x).leaf_p _ _ v.leads w.leads).0
     in record { leaves = no; nodes = λ x f d. no x (node_leaf t x p f) (node_leaf u x o d) }
 
 -- an entry that is in no tree

@@ -1,8 +1,8 @@
 -- A tree of an arena grows by one entry, and the arena keeps the shape.
-use Rattle.std.proofs.Common.{◌≡◌, ◌≢◌, ℕ, ◌+◌, ◌-◌, ◌<◌, ◌≤◌, ◌⊎◌, inl, inr, List, [], ◌∷◌, ◌++◌, length, set, Bool, true, false, eqb, cond, refl, sym, ap, ◌∙◌, subst, arith, eq-eqb, ne_eqb}
-use Rattle.std.specs.Prelude.{ℤ, Option, Some, None, IsSomeAnd, ◌==◌}
-use Rattle.std.proofs.lemmas.Bool.{cases_eq, cases_lt}
-use Rattle.std.proofs.lemmas.List.{length-set, get_or-set_same, get_or-set_other}
+use Rattle.std.proofs.Common.{◌≡◌, ℕ, ◌+◌, ◌<◌, inl, inr, length, set, refl, sym, ap, ◌∙◌, subst}
+use Rattle.std.specs.Prelude.{ℤ}
+use Rattle.std.proofs.lemmas.Bool.{cases_eq}
+use Rattle.std.proofs.lemmas.List.{length-set}
 use Rattle.eb_arena.specs.declared.links.Side.{Side}
 use Rattle.eb_arena.specs.declared.links.Side.TheVariants as sides
 use Rattle.eb_arena.specs.declared.links.Target.{Target}
@@ -10,16 +10,12 @@ use Rattle.eb_arena.specs.declared.links.Target.TheVariants as targets
 use Rattle.eb_arena.specs.declared.links.Place.{Place}
 use Rattle.eb_arena.specs.declared.links.Place.TheVariants as places
 use Rattle.eb_arena.specs.declared.element.Element.{Element}
-use Rattle.eb_arena.specs.Links.{index_of, place_index, place_side, opposite}
-use Rattle.eb_arena.specs.Parts.{Parts, element_at, link_at, with_element, with_link, with_child, child, hung, linked}
-use Rattle.eb_arena.specs.Shape.{Tree, tip, fork, Stands, Split, HasLeaf, HasNode, IsRoot, root_place, Shape, InSome}
-use Rattle.eb_arena.specs.Way.{Step, from_left, from_right, fill, plug, Leads}
-use Rattle.eb_arena.specs.Laws.{SameLeaf, SameNode, SameOn}
-use Rattle.eb_arena.proofs.Frame.{kept, at_set, at_other}
-use Rattle.eb_arena.proofs.Ways.{part_split}
-use Rattle.eb_arena.proofs.Unique.{leads_somewhere}
-use Rattle.eb_dups.specs.Grown.{grown, grown_element, attached, with_tree}
-use Rattle.eb_dups.proofs.Distinct.{NoShare, Distinct, Away, Fresh, FreshWay, distinct, part_distinct, away, roots_apart, fresh, fresh_part, fresh_way, node_leaf}
+use Rattle.eb_arena.specs.Links.{index_of, place_index, opposite}
+use Rattle.eb_arena.specs.Parts.{Parts, element_at, with_element, with_link, with_child, child, hung, linked}
+use Rattle.eb_arena.specs.Shape.{root_place}
+use Rattle.eb_arena.specs.Laws.{SameLeaf, SameNode}
+use Rattle.eb_arena.proofs.Frame.{at_set, at_other}
+use Rattle.eb_dups.specs.Grown.{grown_element, attached}
 use Rattle.eb_dups.proofs.Moves.{hung_leaf, hung_node, hung_count, leaf_then, node_then, LinkedNode, linked_node, linked_root}
 
 -- what the arena z has of the arena a, where the node of entry e was put in above a part at a place
@@ -48,9 +44,9 @@ link_leaf : (a : Parts) (i x : ℕ) (s : Side) (t : Target) → i < length a.ele
 link_leaf a i x s t f =
     elim (cases_eq x i) [
       | inl e ↦
-        let d : Element = with_child s t (element_at a i) in
-        let r : element_at (with_element a i d) x ≡ d = ap (element_at (with_element a i d)) e ∙ at_set a i d f in
-        record { leaf_p = ap (λ m. m.leaf_p) r ∙ ((child_leaf s t (element_at a i)).0 ∙ ap (λ m. (element_at a m).leaf_p) (sym e)); key = ap (λ m. m.key) r ∙ ((child_leaf s t (element_at a i)).1 ∙ ap (λ m. (element_at a m).key) (sym e)) }
+          let d : Element = with_child s t (element_at a i) in
+          let r : element_at (with_element a i d) x ≡ d = ap (element_at (with_element a i d)) e ∙ at_set a i d f in
+          record { leaf_p = ap (λ m. m.leaf_p) r ∙ ((child_leaf s t (element_at a i)).0 ∙ ap (λ m. (element_at a m).leaf_p) (sym e)); key = ap (λ m. m.key) r ∙ ((child_leaf s t (element_at a i)).1 ∙ ap (λ m. (element_at a m).key) (sym e)) }
       | inr n ↦ set_leaf a i x (with_child s t (element_at a i)) n
     ]
 
@@ -83,17 +79,17 @@ before_link a part place e side bit f g n =
       nodes = λ x m k. node_then a h (with_element h e d) x (hung_node a part p x g k) (set_node h e x d m);
       own = at_set h e d (subst (λ m. e < m) (sym c.0) f);
       leaf_up = λ x k.
-        let i : index_of part ≡ x = ap index_of k in
-        let o : x ≡ e → ⊥ = λ z. n (i ∙ z) in
-        let r : element_at h x ≡ record (element_at a x) { leaf_p = p } = ap (λ m. element_at (hung a m p) x) k ∙ hung_at_leaf a x p (subst (λ m. m < length a.elements) i g) in
-        let s : SameLeaf h (with_element h e d) x = set_leaf h e x d o in
-        (s.leaf_p ∙ ap (λ m. m.leaf_p) r, s.key ∙ ap (λ m. m.key) r);
+          let i : index_of part ≡ x = ap index_of k in
+          let o : x ≡ e → ⊥ = λ z. n (i ∙ z) in
+          let r : element_at h x ≡ record (element_at a x) { leaf_p = p } = ap (λ m. element_at (hung a m p) x) k ∙ hung_at_leaf a x p (subst (λ m. m < length a.elements) i g) in
+          let s : SameLeaf h (with_element h e d) x = set_leaf h e x d o in
+          (s.leaf_p ∙ ap (λ m. m.leaf_p) r, s.key ∙ ap (λ m. m.key) r);
       node_up = λ x k.
-        let i : index_of part ≡ x = ap index_of k in
-        let o : x ≡ e → ⊥ = λ z. n (i ∙ z) in
-        let r : element_at h x ≡ record (element_at a x) { node_p = p } = ap (λ m. element_at (hung a m p) x) k ∙ hung_at_node a x p (subst (λ m. m < length a.elements) i g) in
-        let s : SameNode h (with_element h e d) x = set_node h e x d o in
-        (s.node_p ∙ ap (λ m. m.node_p) r, s.bit ∙ ap (λ m. m.bit) r, s.left ∙ ap (λ m. m.left) r, s.right ∙ ap (λ m. m.right) r);
+          let i : index_of part ≡ x = ap index_of k in
+          let o : x ≡ e → ⊥ = λ z. n (i ∙ z) in
+          let r : element_at h x ≡ record (element_at a x) { node_p = p } = ap (λ m. element_at (hung a m p) x) k ∙ hung_at_node a x p (subst (λ m. m < length a.elements) i g) in
+          let s : SameNode h (with_element h e d) x = set_node h e x d o in
+          (s.node_p ∙ ap (λ m. m.node_p) r, s.bit ∙ ap (λ m. m.bit) r, s.left ∙ ap (λ m. m.left) r, s.right ∙ ap (λ m. m.right) r);
     }
 
 -- put in above a part at a node
@@ -137,9 +133,9 @@ grew_at a part i s e side bit f g n fi ni np =
         own = at_other b i e d (λ y. ni (sym y)) ∙ r.own;
         leaf_up = λ x k. let u : SameLeaf b z x = link_leaf b i x s (targets.Node e) fb in (u.leaf_p ∙ (r.leaf_up x k).0, u.key ∙ (r.leaf_up x k).1);
         node_up = λ x k.
-          let o : x ≡ i → ⊥ = λ y. np (k ∙ ap (λ m. targets.Node m) y) in
-          let u : SameNode b z x = set_node b i x d o in
-          (u.node_p ∙ (r.node_up x k).0, u.bit ∙ (r.node_up x k).1, u.left ∙ (r.node_up x k).2, u.right ∙ (r.node_up x k).3);
+            let o : x ≡ i → ⊥ = λ y. np (k ∙ ap (λ m. targets.Node m) y) in
+            let u : SameNode b z x = set_node b i x d o in
+            (u.node_p ∙ (r.node_up x k).0, u.bit ∙ (r.node_up x k).1, u.left ∙ (r.node_up x k).2, u.right ∙ (r.node_up x k).3);
       };
       links = r.links;
       node = at ∙ (child_twice s (targets.Node e) (element_at b i) ∙ ap (with_child s (targets.Node e)) (sym at));

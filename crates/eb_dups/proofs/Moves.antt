@@ -1,21 +1,17 @@
 -- What putting in a new node leaves as it was, and what it writes.
-use Rattle.std.proofs.Common.{◌≡◌, ◌≢◌, ℕ, ◌+◌, ◌-◌, ◌<◌, ◌≤◌, ◌⊎◌, inl, inr, List, [], ◌∷◌, length, get_or, set, Bool, true, false, ltb, cond, refl, sym, ap, ◌∙◌, subst, arith, lt-ltb, le-ltb}
-use Rattle.std.specs.Prelude.{ℤ}
-use Rattle.std.proofs.lemmas.Bool.{cases_eq, cases_lt}
-use Rattle.std.proofs.lemmas.List.{length-set, get_or-set_same, get_or-set_other}
+use Rattle.std.proofs.Common.{◌≡◌, ℕ, ◌+◌, ◌-◌, ◌<◌, inl, inr, length, cond, refl, sym, ap, ◌∙◌, arith, lt-ltb, le-ltb}
+use Rattle.std.proofs.lemmas.Bool.{cases_eq}
+use Rattle.std.proofs.lemmas.List.{length-set}
 use Rattle.eb_arena.specs.declared.links.Side.{Side}
-use Rattle.eb_arena.specs.declared.links.Side.TheVariants as sides
 use Rattle.eb_arena.specs.declared.links.Target.{Target}
 use Rattle.eb_arena.specs.declared.links.Target.TheVariants as targets
 use Rattle.eb_arena.specs.declared.links.Place.{Place}
 use Rattle.eb_arena.specs.declared.links.Place.TheVariants as places
 use Rattle.eb_arena.specs.declared.element.Element.{Element}
-use Rattle.eb_arena.specs.Links.{index_of, place_index, opposite}
-use Rattle.eb_arena.specs.Parts.{Parts, element_at, link_at, with_element, with_link, with_child, child, hung, linked}
-use Rattle.eb_arena.specs.Shape.{root_place}
+use Rattle.eb_arena.specs.Links.{index_of}
+use Rattle.eb_arena.specs.Parts.{Parts, element_at, with_element, with_link, with_child, hung, linked}
 use Rattle.eb_arena.specs.Laws.{SameLeaf, SameNode}
 use Rattle.eb_arena.proofs.Frame.{at_set, at_other}
-use Rattle.eb_dups.specs.Grown.{attached, grown_element}
 
 leaf_by : (a z : Parts) (x : ℕ) → element_at z x ≡ element_at a x → SameLeaf a z x
 leaf_by a z x e = record { leaf_p = ap (λ m. m.leaf_p) e; key = ap (λ m. m.key) e }
@@ -40,7 +36,7 @@ hung_leaf a (targets.Leaf i) p x f n = leaf_by a _ x (at_other a i x (record (el
 hung_leaf a (targets.Node i) p x f n =
     elim (cases_eq x i) [
       | inl e ↦ let r : element_at (hung a (targets.Node i) p) x ≡ record (element_at a i) { node_p = p } = read_set a i x (record (element_at a i) { node_p = p }) e f in
-        record { leaf_p = ap (λ m. m.leaf_p) r ∙ ap (λ m. (element_at a m).leaf_p) (sym e); key = ap (λ m. m.key) r ∙ ap (λ m. (element_at a m).key) (sym e) }
+          record { leaf_p = ap (λ m. m.leaf_p) r ∙ ap (λ m. (element_at a m).leaf_p) (sym e); key = ap (λ m. m.key) r ∙ ap (λ m. (element_at a m).key) (sym e) }
       | inr d ↦ leaf_by a _ x (at_other a i x (record (element_at a i) { node_p = p }) d)
     ]
 
@@ -50,7 +46,7 @@ hung_node a (targets.Node i) p x f n = node_by a _ x (at_other a i x (record (el
 hung_node a (targets.Leaf i) p x f n =
     elim (cases_eq x i) [
       | inl e ↦ let r : element_at (hung a (targets.Leaf i) p) x ≡ record (element_at a i) { leaf_p = p } = read_set a i x (record (element_at a i) { leaf_p = p }) e f in
-        record { node_p = ap (λ m. m.node_p) r ∙ ap (λ m. (element_at a m).node_p) (sym e); bit = ap (λ m. m.bit) r ∙ ap (λ m. (element_at a m).bit) (sym e); left = ap (λ m. m.left) r ∙ ap (λ m. (element_at a m).left) (sym e); right = ap (λ m. m.right) r ∙ ap (λ m. (element_at a m).right) (sym e) }
+          record { node_p = ap (λ m. m.node_p) r ∙ ap (λ m. (element_at a m).node_p) (sym e); bit = ap (λ m. m.bit) r ∙ ap (λ m. (element_at a m).bit) (sym e); left = ap (λ m. m.left) r ∙ ap (λ m. (element_at a m).left) (sym e); right = ap (λ m. m.right) r ∙ ap (λ m. (element_at a m).right) (sym e) }
       | inr d ↦ node_by a _ x (at_other a i x (record (element_at a i) { leaf_p = p }) d)
     ]
 

@@ -1,25 +1,22 @@
 -- The arena in which a tree grew has the shape.
-use Rattle.std.proofs.Common.{◌≡◌, ◌≢◌, ℕ, ◌+◌, ◌-◌, ◌<◌, ◌≤◌, ◌⊎◌, inl, inr, List, [], ◌∷◌, ◌++◌, length, get_or, set, Bool, true, false, eqb, cond, refl, sym, ap, ◌∙◌, subst, arith, eq-eqb, ne_eqb}
-use Rattle.std.specs.Prelude.{ℤ, Option, Some, None, IsSomeAnd, ◌==◌, if◌then◌else◌}
-use Rattle.std.proofs.lemmas.Bool.{cases_eq, cases_lt}
-use Rattle.std.proofs.lemmas.List.{length-set, get_or-set_same, get_or-set_other}
+use Rattle.std.proofs.Common.{◌≡◌, ◌≢◌, ℕ, ◌+◌, ◌<◌, ◌⊎◌, inl, inr, List, [], ◌∷◌, length, get_or, refl, sym, ap, ◌∙◌, subst, arith, eq-eqb, ne_eqb}
+use Rattle.std.specs.Prelude.{ℤ, Option, Some, None, IsSomeAnd, if◌then◌else◌}
+use Rattle.std.proofs.lemmas.Bool.{cases_eq}
+use Rattle.std.proofs.lemmas.List.{get_or-set_same, get_or-set_other}
 use Rattle.eb_arena.specs.declared.links.Side.{Side}
 use Rattle.eb_arena.specs.declared.links.Side.TheVariants as sides
 use Rattle.eb_arena.specs.declared.links.Target.{Target}
 use Rattle.eb_arena.specs.declared.links.Target.TheVariants as targets
 use Rattle.eb_arena.specs.declared.links.Place.{Place}
 use Rattle.eb_arena.specs.declared.links.Place.TheVariants as places
-use Rattle.eb_arena.specs.declared.element.Element.{Element}
-use Rattle.eb_arena.specs.Links.{index_of, place_index, place_side, opposite}
-use Rattle.eb_arena.specs.Parts.{Parts, element_at, link_at, with_child, child}
+use Rattle.eb_arena.specs.Links.{index_of, place_index, opposite}
+use Rattle.eb_arena.specs.Parts.{Parts, element_at, link_at}
 use Rattle.eb_arena.specs.Shape.{Tree, tip, fork, Stands, Split, HasLeaf, HasNode, IsRoot, root_place, Shape, InSome}
-use Rattle.eb_arena.specs.Way.{Step, from_left, from_right, fill, plug, Leads}
+use Rattle.eb_arena.specs.Way.{Step, from_left, from_right, plug, Leads}
 use Rattle.eb_arena.specs.Laws.{SameLeaf, SameNode, SameOn}
 use Rattle.eb_arena.proofs.Frame.{kept}
-use Rattle.eb_arena.proofs.Ways.{part_split}
-use Rattle.eb_arena.proofs.Unique.{leads_somewhere}
-use Rattle.eb_dups.specs.Grown.{grown, grown_element, attached, with_tree}
-use Rattle.eb_dups.proofs.Distinct.{NoShare, Distinct, Away, Fresh, FreshWay, distinct, part_distinct, away, roots_apart, fresh, fresh_part, fresh_way, node_leaf}
+use Rattle.eb_dups.specs.Grown.{grown, attached, with_tree}
+use Rattle.eb_dups.proofs.Distinct.{NoShare, Distinct, Away, Fresh, FreshWay, distinct, part_distinct, away, roots_apart, fresh, fresh_part, fresh_way}
 use Rattle.eb_dups.proofs.Growing.{Grew, GrewAt, GrewRoot, grew_at, grew_root}
 
 -- the part on top of a tree is in it
@@ -34,10 +31,11 @@ top_node a part place (fork i b l r) x s h = inl (ap index_of (sym h ∙ s.0))
 -- what an arena has the same as another of a tree without the entry, the part and the node above it
 pub same_on : (a z : Parts) (part : Target) (place : Place) (e : ℕ) (side : Side) (bit : ℤ) (t : Tree) → Grew a z part place e side bit → Fresh e t → ((x : ℕ) → part ≡ targets.Leaf x → HasLeaf x t → ⊥) → ((x : ℕ) → part ≡ targets.Node x → HasNode x t → ⊥) → (HasNode (place_index place) t → ⊥) → SameOn a z t
 same_on a z part place e side bit (tip x k) g f p q n = g.leaves x (λ h. f.leaf (sym h)) (λ h. p x h refl)
-same_on a z part place e side bit (fork i b l r) g f p q n =
-    (g.nodes i (λ h. f.node (inl (sym h))) (λ h. q i h (inl refl)) (λ h. n (inl h)),
-      same_on a z part place e side bit l g (record { leaf = λ h. f.leaf (inl h); node = λ h. f.node (inr (inl h)) }) (λ x h m. p x h (inl m)) (λ x h m. q x h (inr (inl m))) (λ h. n (inr (inl h))),
-      same_on a z part place e side bit r g (record { leaf = λ h. f.leaf (inr h); node = λ h. f.node (inr (inr h)) }) (λ x h m. p x h (inr m)) (λ x h m. q x h (inr (inr m))) (λ h. n (inr (inr h))))
+same_on a z part place e side bit (fork i b l r) g f p q n = (
+  g.nodes i (λ h. f.node (inl (sym h))) (λ h. q i h (inl refl)) (λ h. n (inl h)),
+  same_on a z part place e side bit l g (record { leaf = λ h. f.leaf (inl h); node = λ h. f.node (inr (inl h)) }) (λ x h m. p x h (inl m)) (λ x h m. q x h (inr (inl m))) (λ h. n (inr (inl h))),
+  same_on a z part place e side bit r g (record { leaf = λ h. f.leaf (inr h); node = λ h. f.node (inr (inr h)) }) (λ x h m. p x h (inr m)) (λ x h m. q x h (inr (inr m))) (λ h. n (inr (inr h))),
+)
 
 -- the part itself stands below the new node
 moved_part : (a z : Parts) (part : Target) (place : Place) (e : ℕ) (side : Side) (bit : ℤ) (s : Tree) → Grew a z part place e side bit → Stands a part place s → Distinct s → Fresh e s → (HasNode (place_index place) s → ⊥) → Stands z part (places.Under e (opposite side)) s
@@ -49,10 +47,14 @@ moved_part a z part place e side bit (fork i b l r) g s d f n =
     let no_leaf : (x : ℕ) → part ≡ targets.Leaf x → ⊥ = λ x h. let y : targets.Leaf x ≡ targets.Node i = sym h ∙ s.0 in cc in
     let is : (x : ℕ) → part ≡ targets.Node x → x ≡ i = λ x h. ap index_of (sym h ∙ s.0) in
     let ls : SameOn a z l = same_on a z part place e side bit l g (record { leaf = λ h. f.leaf (inl h); node = λ h. f.node (inr (inl h)) }) (λ x h m. no_leaf x h) (λ x h m. d.1 (subst (λ y. HasNode y l) (is x h) m)) (λ h. n (inr (inl h))) in
-    let rs : SameOn a z r = same_on a z part place e side bit r g (record { leaf = λ h. f.leaf (inr h); node = λ h. f.node (inr (inr h)) }) (λ x h m. no_leaf x h) (λ x h m. d.2 (subst (λ y. HasNode y r) (is x h) m)) (λ h. n (inr (inr h))) in
-    (s.0, subst (λ m. i < m) (sym g.count) s.1, u.0, u.1 ∙ s.3,
+    let rs : SameOn a z r = same_on a z part place e side bit r g (record { leaf = λ h. f.leaf (inr h); node = λ h. f.node (inr (inr h)) }) (λ x h m. no_leaf x h) (λ x h m. d.2 (subst (λ y. HasNode y r) (is x h) m)) (λ h. n (inr (inr h))) in (
+      s.0,
+      subst (λ m. i < m) (sym g.count) s.1,
+      u.0,
+      u.1 ∙ s.3,
       subst (λ m. Stands z m (places.Under i sides.Left) l) (sym u.2) (kept a z _ _ l g.count ls s.4),
-      subst (λ m. Stands z m (places.Under i sides.Right) r) (sym u.3) (kept a z _ _ r g.count rs s.5))
+      subst (λ m. Stands z m (places.Under i sides.Right) r) (sym u.3) (kept a z _ _ r g.count rs s.5),
+    )
 
 -- the new node stands where the part hung
 new_stands : (a z : Parts) (part : Target) (place : Place) (e : ℕ) (side : Side) (bit : ℤ) (s : Tree) → Grew a z part place e side bit → e < length a.elements → Stands z part (places.Under e (opposite side)) s → Stands z (targets.Node e) place (grown side e bit (element_at a e).key s)
@@ -73,27 +75,37 @@ SameWay a z (from_right i b l ∷ w) = SameNode a z i × SameOn a z l × SameWay
 pub lift : (a z : Parts) (w : List Step) (s g : Tree) → length z.elements ≡ length a.elements → SameWay a z w → ((t : Target) (p : Place) → Stands a t p s → Stands z t p g) → (t : Target) (p : Place) → Stands a t p (plug w s) → Stands z t p (plug w g)
 lift a z [] s g n m f = f
 lift a z (from_left i b r ∷ w) s g n m f =
-    lift a z w (fork i b s r) (fork i b g r) n m.2 (λ t p h.
-      (h.0, subst (λ x. i < x) (sym n) h.1, m.0.node_p ∙ h.2, m.0.bit ∙ h.3,
-        subst (λ x. Stands z x (places.Under i sides.Left) g) (sym m.0.left) (f _ _ h.4),
-        subst (λ x. Stands z x (places.Under i sides.Right) r) (sym m.0.right) (kept a z _ _ r n m.1 h.5)))
+    lift a z w (fork i b s r) (fork i b g r) n m.2 (λ t p h. (
+      h.0,
+      subst (λ x. i < x) (sym n) h.1,
+      m.0.node_p ∙ h.2,
+      m.0.bit ∙ h.3,
+      subst (λ x. Stands z x (places.Under i sides.Left) g) (sym m.0.left) (f _ _ h.4),
+      subst (λ x. Stands z x (places.Under i sides.Right) r) (sym m.0.right) (kept a z _ _ r n m.1 h.5),
+    ))
 lift a z (from_right i b l ∷ w) s g n m f =
-    lift a z w (fork i b l s) (fork i b l g) n m.2 (λ t p h.
-      (h.0, subst (λ x. i < x) (sym n) h.1, m.0.node_p ∙ h.2, m.0.bit ∙ h.3,
-        subst (λ x. Stands z x (places.Under i sides.Left) l) (sym m.0.left) (kept a z _ _ l n m.1 h.4),
-        subst (λ x. Stands z x (places.Under i sides.Right) g) (sym m.0.right) (f _ _ h.5)))
+    lift a z w (fork i b l s) (fork i b l g) n m.2 (λ t p h. (
+      h.0,
+      subst (λ x. i < x) (sym n) h.1,
+      m.0.node_p ∙ h.2,
+      m.0.bit ∙ h.3,
+      subst (λ x. Stands z x (places.Under i sides.Left) l) (sym m.0.left) (kept a z _ _ l n m.1 h.4),
+      subst (λ x. Stands z x (places.Under i sides.Right) g) (sym m.0.right) (f _ _ h.5),
+    ))
 
 -- what is away from a tree with the part and the node above it is the same
 same_way : (a z : Parts) (part : Target) (place : Place) (e : ℕ) (side : Side) (bit : ℤ) (w : List Step) (t : Tree) → Grew a z part place e side bit → FreshWay e w → Away w t → ((x : ℕ) → part ≡ targets.Leaf x → HasLeaf x t) → ((x : ℕ) → part ≡ targets.Node x → HasNode x t) → HasNode (place_index place) t → SameWay a z w
 same_way a z part place e side bit [] t g f v p q n = tt
-same_way a z part place e side bit (from_left i b r ∷ w) t g f v p q n =
-    (g.nodes i f.0 (λ h. v.0 (q i h)) (λ h. v.0 (subst (λ m. HasNode m t) h n)),
-      same_on a z part place e side bit r g f.1 (λ x h m. v.1.leaves x (p x h) m) (λ x h m. v.1.nodes x (q x h) m) (λ m. v.1.nodes (place_index place) n m),
-      same_way a z part place e side bit w t g f.2 v.2 p q n)
-same_way a z part place e side bit (from_right i b l ∷ w) t g f v p q n =
-    (g.nodes i f.0 (λ h. v.0 (q i h)) (λ h. v.0 (subst (λ m. HasNode m t) h n)),
-      same_on a z part place e side bit l g f.1 (λ x h m. v.1.leaves x (p x h) m) (λ x h m. v.1.nodes x (q x h) m) (λ m. v.1.nodes (place_index place) n m),
-      same_way a z part place e side bit w t g f.2 v.2 p q n)
+same_way a z part place e side bit (from_left i b r ∷ w) t g f v p q n = (
+  g.nodes i f.0 (λ h. v.0 (q i h)) (λ h. v.0 (subst (λ m. HasNode m t) h n)),
+  same_on a z part place e side bit r g f.1 (λ x h m. v.1.leaves x (p x h) m) (λ x h m. v.1.nodes x (q x h) m) (λ m. v.1.nodes (place_index place) n m),
+  same_way a z part place e side bit w t g f.2 v.2 p q n,
+)
+same_way a z part place e side bit (from_right i b l ∷ w) t g f v p q n = (
+  g.nodes i f.0 (λ h. v.0 (q i h)) (λ h. v.0 (subst (λ m. HasNode m t) h n)),
+  same_on a z part place e side bit l g f.1 (λ x h m. v.1.leaves x (p x h) m) (λ x h m. v.1.nodes x (q x h) m) (λ m. v.1.nodes (place_index place) n m),
+  same_way a z part place e side bit w t g f.2 v.2 p q n,
+)
 
 -- the arena a, an entry that is to be put in above a part of root q's tree
 pub record Growth (a : Parts) (ts : ℕ → Option Tree) (q : ℕ) (w : List Step) (part : Target) (place : Place) (s : Tree) (e : ℕ) : Type 0 where
@@ -163,8 +175,8 @@ on_root a ts q part place s e side bit g =
     let d : Distinct s = distinct a q s [] part place g.stands g.leads r.1 in
     let f : Fresh e s = fresh a q e s part place [] g.stands g.leads r.1 g.free in
     let here : (p : Place) → p ≡ root_place a q → Outcome a (attached a part p e side bit) q [] part p s e side bit = λ p h.
-      let x : GrewRoot a (attached a part (root_place a q) e side bit) part q e side bit = grew_root a part q e side bit g.exists (part_in a part place s g.stands) (part_not a part place s e g.stands f) in
-      subst (λ m. Outcome a (attached a part m e side bit) q [] part m s e side bit) (sym h) (root_outcome a (attached a part (root_place a q) e side bit) q part s e side bit x g.exists g.root (subst (λ m. Stands a part m s) g.leads g.stands) d f r.1)
+    let x : GrewRoot a (attached a part (root_place a q) e side bit) part q e side bit = grew_root a part q e side bit g.exists (part_in a part place s g.stands) (part_not a part place s e g.stands f) in
+    subst (λ m. Outcome a (attached a part m e side bit) q [] part m s e side bit) (sym h) (root_outcome a (attached a part (root_place a q) e side bit) q part s e side bit x g.exists g.root (subst (λ m. Stands a part m s) g.leads g.stands) d f r.1)
     in here place g.leads
 
 on_left : (a : Parts) (ts : ℕ → Option Tree) (q j : ℕ) (b : ℤ) (r : Tree) (w : List Step) (part : Target) (s : Tree) (e : ℕ) (side : Side) (bit : ℤ) → Growth a ts q (from_left j b r ∷ w) part (places.Under j sides.Left) s e → Outcome a (attached a part (places.Under j sides.Left) e side bit) q (from_left j b r ∷ w) part (places.Under j sides.Left) s e side bit
@@ -187,10 +199,14 @@ on_left a ts q j b r w part s e side bit g =
     let new : Tree = grown side e bit (element_at a e).key s in
     let n : Stands z (targets.Node e) place new = new_stands a z part place e side bit s gr g.exists m in
     let so : SameOn a z r = same_on a z part place e side bit r gr fo (λ y k v. d.0.leaves y (top_leaf a part place s y g.stands k) v) (λ y k v. d.0.nodes y (top_node a part place s y g.stands k) v) d.2 in
-    let top : (o : Target) (p : Place) → Stands a o p t → Stands z o p (fork j b new r) = λ o p h.
-      (h.0, subst (λ y. j < y) (sym gr.count) h.1, x.node_p ∙ h.2, x.node_bit ∙ h.3,
-        subst (λ y. Stands z y (places.Under j sides.Left) new) (sym (ap (λ y. y.left) x.node)) n,
-        subst (λ y. Stands z y (places.Under j sides.Right) r) (sym x.far) (kept a z _ _ r gr.count so h.5)) in
+    let top : (o : Target) (p : Place) → Stands a o p t → Stands z o p (fork j b new r) = λ o p h. (
+      h.0,
+      subst (λ y. j < y) (sym gr.count) h.1,
+      x.node_p ∙ h.2,
+      x.node_bit ∙ h.3,
+      subst (λ y. Stands z y (places.Under j sides.Left) new) (sym (ap (λ y. y.left) x.node)) n,
+      subst (λ y. Stands z y (places.Under j sides.Right) r) (sym x.far) (kept a z _ _ r gr.count so h.5),
+    ) in
     let sw : SameWay a z w = same_way a z part place e side bit w t gr (fresh_way w t e fw) (away w t dw) (λ y k. inl (top_leaf a part place s y g.stands k)) (λ y k. inr (inl (top_node a part place s y g.stands k))) (inl refl) in
     let up : Stands z (link_at a q) (root_place a q) (plug w (fork j b new r)) = lift a z w t (fork j b new r) gr.count sw top (link_at a q) (root_place a q) root.0 in
     let lk : link_at a q ≡ link_at z q = ap (λ y. get_or y q targets.Nothing) (sym x.links) in
@@ -223,10 +239,14 @@ on_right a ts q j b l w part s e side bit g =
     let new : Tree = grown side e bit (element_at a e).key s in
     let n : Stands z (targets.Node e) place new = new_stands a z part place e side bit s gr g.exists m in
     let so : SameOn a z l = same_on a z part place e side bit l gr fo (λ y k v. d.0.leaves y v (top_leaf a part place s y g.stands k)) (λ y k v. d.0.nodes y v (top_node a part place s y g.stands k)) d.1 in
-    let top : (o : Target) (p : Place) → Stands a o p t → Stands z o p (fork j b l new) = λ o p h.
-      (h.0, subst (λ y. j < y) (sym gr.count) h.1, x.node_p ∙ h.2, x.node_bit ∙ h.3,
-        subst (λ y. Stands z y (places.Under j sides.Left) l) (sym x.far) (kept a z _ _ l gr.count so h.4),
-        subst (λ y. Stands z y (places.Under j sides.Right) new) (sym (ap (λ y. y.right) x.node)) n) in
+    let top : (o : Target) (p : Place) → Stands a o p t → Stands z o p (fork j b l new) = λ o p h. (
+      h.0,
+      subst (λ y. j < y) (sym gr.count) h.1,
+      x.node_p ∙ h.2,
+      x.node_bit ∙ h.3,
+      subst (λ y. Stands z y (places.Under j sides.Left) l) (sym x.far) (kept a z _ _ l gr.count so h.4),
+      subst (λ y. Stands z y (places.Under j sides.Right) new) (sym (ap (λ y. y.right) x.node)) n,
+    ) in
     let sw : SameWay a z w = same_way a z part place e side bit w t gr (fresh_way w t e fw) (away w t dw) (λ y k. inr (top_leaf a part place s y g.stands k)) (λ y k. inr (inr (top_node a part place s y g.stands k))) (inl refl) in
     let up : Stands z (link_at a q) (root_place a q) (plug w (fork j b l new)) = lift a z w t (fork j b l new) gr.count sw top (link_at a q) (root_place a q) root.0 in
     let lk : link_at a q ≡ link_at z q = ap (λ y. get_or y q targets.Nothing) (sym x.links) in
@@ -295,8 +315,8 @@ some_later : (ts : ℕ → Option Tree) (q r : ℕ) (t u : Tree) (P : Tree → T
 some_later ts q r t u P h f s =
     elim (cases_eq r q) [
       | inl e ↦
-        let x : IsSomeAnd (Some t) P = subst (λ y. IsSomeAnd y P) (ap ts e ∙ h) s in
-        subst (λ y. IsSomeAnd (with_tree ts q (Some u) y) P) (sym e) (subst (λ y. IsSomeAnd y P) (sym (tree_at ts q (Some u))) (f x))
+          let x : IsSomeAnd (Some t) P = subst (λ y. IsSomeAnd y P) (ap ts e ∙ h) s in
+          subst (λ y. IsSomeAnd (with_tree ts q (Some u) y) P) (sym e) (subst (λ y. IsSomeAnd y P) (sym (tree_at ts q (Some u))) (f x))
       | inr n ↦ subst (λ y. IsSomeAnd y P) (sym (tree_other ts q r (Some u) n)) s
     ]
 
@@ -319,9 +339,9 @@ later_leaf a z ts q w part place s e side bit i g gr f n ne =
     elim (is_target part (targets.Leaf i)) [
       | inl h ↦ (q, (subst (λ m. q < m) (sym gr.roots) g.root, subst (λ y. IsSomeAnd y (HasLeaf i)) (sym (tree_at ts q (Some (plug w new)))) (move (plug_leaf w s i (top_leaf a part place s i g.stands h)))))
       | inr other ↦
-        let u : SameLeaf a z i = gr.leaves i ne other in
-        let x : InSome a ts (HasLeaf i) = g.shape.leaves i (subst (λ m. i < m) gr.count f) (λ h. n (u.leaf_p ∙ h)) in
-        (x.0, (subst (λ m. x.0 < m) (sym gr.roots) x.1.0, some_later ts q x.0 (plug w s) (plug w new) (HasLeaf i) g.tree_is move x.1.1))
+          let u : SameLeaf a z i = gr.leaves i ne other in
+          let x : InSome a ts (HasLeaf i) = g.shape.leaves i (subst (λ m. i < m) gr.count f) (λ h. n (u.leaf_p ∙ h)) in
+          (x.0, (subst (λ m. x.0 < m) (sym gr.roots) x.1.0, some_later ts q x.0 (plug w s) (plug w new) (HasLeaf i) g.tree_is move x.1.1))
     ]
 
 -- and so is a node
@@ -332,8 +352,8 @@ later_node a z ts q w part place s e side bit i g gr nh f n ne =
     elim (is_target part (targets.Node i)) [
       | inl h ↦ (q, (subst (λ m. q < m) (sym gr.roots) g.root, subst (λ y. IsSomeAnd y (HasNode i)) (sym (tree_at ts q (Some (plug w new)))) (move (plug_node w s i (top_node a part place s i g.stands h)))))
       | inr other ↦
-        let x : InSome a ts (HasNode i) = g.shape.nodes i (subst (λ m. i < m) gr.count f) (λ h. n (nh i ne other ∙ h)) in
-        (x.0, (subst (λ m. x.0 < m) (sym gr.roots) x.1.0, some_later ts q x.0 (plug w s) (plug w new) (HasNode i) g.tree_is move x.1.1))
+          let x : InSome a ts (HasNode i) = g.shape.nodes i (subst (λ m. i < m) gr.count f) (λ h. n (nh i ne other ∙ h)) in
+          (x.0, (subst (λ m. x.0 < m) (sym gr.roots) x.1.0, some_later ts q x.0 (plug w s) (plug w new) (HasNode i) g.tree_is move x.1.1))
     ]
 
 -- the arena in which a tree grew has the shape

@@ -2,5 +2,7 @@
 #![tactic(auto)]
 
 mod grow;
+mod twins;
 
 pub use grow::attach;
+pub use twins::insert_dup;
