@@ -65,7 +65,7 @@ node_way a q (fork i b l r) c target place n s w h =
       ]
     ]
 
-leads_somewhere : (a : Parts) (q : ℕ) (place : Place) (w : List Step) → Leads a q place w → place ≡ places.Nowhere → ⊥
+pub leads_somewhere : (a : Parts) (q : ℕ) (place : Place) (w : List Step) → Leads a q place w → place ≡ places.Nowhere → ⊥
 leads_somewhere a q place [] h e = let x : places.Nowhere ≡ places.Under (length a.elements + q) sides.Left = sym e ∙ h in cc
 leads_somewhere a q place (from_left i b r ∷ w) h e = let x : places.Nowhere ≡ places.Under i sides.Left = sym e ∙ h.0 in cc
 leads_somewhere a q place (from_right i b l ∷ w) h e = let x : places.Nowhere ≡ places.Under i sides.Right = sym e ∙ h.0 in cc
@@ -115,7 +115,7 @@ stand_once a q r e k m xs ys us vs h f g x y =
       back = sym w.after_is ∙ (ap after u.1 ∙ v.after_is);
     }
 
-nothing_stands : (a : Parts) (place : Place) (t : Tree) → Stands a targets.Nothing place t → ⊥
+pub nothing_stands : (a : Parts) (place : Place) (t : Tree) → Stands a targets.Nothing place t → ⊥
 nothing_stands a place (tip e k) s = let x : targets.Nothing ≡ targets.Leaf e = s.0 in cc
 nothing_stands a place (fork j b l r) s = let x : targets.Nothing ≡ targets.Node j = s.0 in cc
 
