@@ -40,20 +40,20 @@ tasklet_place_again home class ws = ap (λ o. o >>= λ c. Some (tasklet home c, 
 
 -- a task line behind its first word
 task_line_again : (name rows : Word) (place : Place) (init : Bool) (ws : List Word) → is_name name ≡ true
-  → task_place_at ws ≡ Some (place, codes "rows" ∷ rows ∷ init_words init) → task_line (name ∷ ws) ≡ Some (record { name = name; place = place; rows = rows; init = init })
+    → task_place_at ws ≡ Some (place, codes "rows" ∷ rows ∷ init_words init) → task_line (name ∷ ws) ≡ Some (record { name = name; place = place; rows = rows; init = init })
 unfolding task_line
 task_line_again name rows place init ws e at =
-  ap (λ o. o >>= λ n. task_place_at n.1 >>= λ p. task_end p.1 >>= λ end. Some (record { name = n.0; place = p.0; rows = end.0; init = end.1 })) (name_again name ws e)
-  ∙ ap (λ o. o >>= λ p. task_end p.1 >>= λ end. Some (record { name = name; place = p.0; rows = end.0; init = end.1 })) at
-  ∙ ap (λ o. o >>= λ end. Some (record { name = name; place = place; rows = end.0; init = end.1 })) (end_again rows init)
+    ap (λ o. o >>= λ n. task_place_at n.1 >>= λ p. task_end p.1 >>= λ end. Some (record { name = n.0; place = p.0; rows = end.0; init = end.1 })) (name_again name ws e)
+    ∙ ap (λ o. o >>= λ p. task_end p.1 >>= λ end. Some (record { name = name; place = p.0; rows = end.0; init = end.1 })) at
+    ∙ ap (λ o. o >>= λ end. Some (record { name = name; place = place; rows = end.0; init = end.1 })) (end_again rows init)
 
 tasklet_line_again : (name rows : Word) (place : Place) (init : Bool) (ws : List Word) → is_name name ≡ true
-  → tasklet_at ws ≡ Some (place, codes "rows" ∷ rows ∷ init_words init) → tasklet_line (name ∷ ws) ≡ Some (record { name = name; place = place; rows = rows; init = init })
+    → tasklet_at ws ≡ Some (place, codes "rows" ∷ rows ∷ init_words init) → tasklet_line (name ∷ ws) ≡ Some (record { name = name; place = place; rows = rows; init = init })
 unfolding tasklet_line
 tasklet_line_again name rows place init ws e at =
-  ap (λ o. o >>= λ n. tasklet_at n.1 >>= λ p. task_end p.1 >>= λ end. Some (record { name = n.0; place = p.0; rows = end.0; init = end.1 })) (name_again name ws e)
-  ∙ ap (λ o. o >>= λ p. task_end p.1 >>= λ end. Some (record { name = name; place = p.0; rows = end.0; init = end.1 })) at
-  ∙ ap (λ o. o >>= λ end. Some (record { name = name; place = place; rows = end.0; init = end.1 })) (end_again rows init)
+    ap (λ o. o >>= λ n. tasklet_at n.1 >>= λ p. task_end p.1 >>= λ end. Some (record { name = n.0; place = p.0; rows = end.0; init = end.1 })) (name_again name ws e)
+    ∙ ap (λ o. o >>= λ p. task_end p.1 >>= λ end. Some (record { name = name; place = p.0; rows = end.0; init = end.1 })) at
+    ∙ ap (λ o. o >>= λ end. Some (record { name = name; place = place; rows = end.0; init = end.1 })) (end_again rows init)
 
 begins_task : (ws : List Word) (line : TaskLine) → task_line ws ≡ Some line → body_line (codes "task" ∷ ws) ≡ Some (task line)
 unfolding body_line task_said tasklet_said row_said event_said end_said past word_at
@@ -69,17 +69,17 @@ task_again line e = go line.place
   where
     go : (place : Place) → body_line (said_words (task (record line { place = place }))) ≡ Some (task (record line { place = place }))
     go (pinned home nice) = begins_task (line.name ∷ codes "home" ∷ home ∷ codes "nice" ∷ nice ∷ codes "rows" ∷ line.rows ∷ init_words line.init) (record line { place = pinned home nice }) (task_line_again line.name line.rows (pinned home nice) line.init (codes "home" ∷ home ∷ codes "nice" ∷ nice ∷ codes "rows" ∷ line.rows ∷ init_words line.init) e
-      (pinned_again home nice (codes "rows" ∷ line.rows ∷ init_words line.init)))
+        (pinned_again home nice (codes "rows" ∷ line.rows ∷ init_words line.init)))
     go (shared nice) = begins_task (line.name ∷ codes "shared" ∷ codes "nice" ∷ nice ∷ codes "rows" ∷ line.rows ∷ init_words line.init) (record line { place = shared nice })
-      (task_line_again line.name line.rows (shared nice) line.init (codes "shared" ∷ codes "nice" ∷ nice ∷ codes "rows" ∷ line.rows ∷ init_words line.init) e (shared_again nice (codes "rows" ∷ line.rows ∷ init_words line.init)))
+        (task_line_again line.name line.rows (shared nice) line.init (codes "shared" ∷ codes "nice" ∷ nice ∷ codes "rows" ∷ line.rows ∷ init_words line.init) e (shared_again nice (codes "rows" ∷ line.rows ∷ init_words line.init)))
     go (tasklet home class) = begins_tasklet (line.name ∷ codes "home" ∷ home ∷ codes "class" ∷ class_name class ∷ codes "rows" ∷ line.rows ∷ init_words line.init) (record line { place = tasklet home class })
-      (tasklet_line_again line.name line.rows (tasklet home class) line.init (codes "home" ∷ home ∷ codes "class" ∷ class_name class ∷ codes "rows" ∷ line.rows ∷ init_words line.init) e (tasklet_place_again home class (codes "rows" ∷ line.rows ∷ init_words line.init)))
+        (tasklet_line_again line.name line.rows (tasklet home class) line.init (codes "home" ∷ home ∷ codes "class" ∷ class_name class ∷ codes "rows" ∷ line.rows ∷ init_words line.init) e (tasklet_place_again home class (codes "rows" ∷ line.rows ∷ init_words line.init)))
 
 wake_again : (name list : Word) (ws : List Word) → is_name name ≡ true → is_some (reasons_of list) ≡ true → order_at (codes "wake" ∷ name ∷ list ∷ ws) ≡ Some (wakes name list, ws)
 unfolding order_at wake_at past word_at
 wake_again name list ws e f =
-  ap (λ o. (o >>= λ found. word_at found.1 >>= λ l. only_if (is_some (reasons_of l.0)) (wakes found.0 l.0, l.1)) or_else kill_at (codes "wake" ∷ name ∷ list ∷ ws)) (name_again name (list ∷ ws) e)
-  ∙ ap (λ b. only_if b (wakes name list, ws) or_else kill_at (codes "wake" ∷ name ∷ list ∷ ws)) f
+    ap (λ o. (o >>= λ found. word_at found.1 >>= λ l. only_if (is_some (reasons_of l.0)) (wakes found.0 l.0, l.1)) or_else kill_at (codes "wake" ∷ name ∷ list ∷ ws)) (name_again name (list ∷ ws) e)
+    ∙ ap (λ b. only_if b (wakes name list, ws) or_else kill_at (codes "wake" ∷ name ∷ list ∷ ws)) f
 
 kill_again : (name : Word) (ws : List Word) → is_name name ≡ true → order_at (codes "kill" ∷ name ∷ ws) ≡ Some (kills name, ws)
 unfolding order_at wake_at kill_at past word_at
@@ -96,9 +96,9 @@ orders_again zero [] ws are none few = refl
 orders_again zero (o ∷ os) ws are none few = absurd (omega arith)
 orders_again (suc most) [] ws are none few = ap (λ o. and_more ws o (orders_at most)) none
 orders_again (suc most) (o ∷ os) ws are none few =
-  ap (λ r. and_more r (order_at r) (orders_at most)) (append_assoc (order_words o) (flat_map order_words os) ws)
-  ∙ ap (λ x. and_more (order_words o ++ (flat_map order_words os ++ ws)) x (orders_at most)) (order_again o (flat_map order_words os ++ ws) are.0)
-  ∙ ap (λ x. (o ∷ x.0, x.1)) (orders_again most os ws are.1 none (omega arith))
+    ap (λ r. and_more r (order_at r) (orders_at most)) (append_assoc (order_words o) (flat_map order_words os) ws)
+    ∙ ap (λ x. and_more (order_words o ++ (flat_map order_words os ++ ws)) x (orders_at most)) (order_again o (flat_map order_words os ++ ws) are.0)
+    ∙ ap (λ x. (o ∷ x.0, x.1)) (orders_again most os ws are.1 none (omega arith))
 
 -- no action stands before an expiry or `next`
 no_order : (delay : Delay) (next : Word) → order_at (delay_words delay ++ codes "next" ∷ next ∷ []) ≡ None
@@ -116,11 +116,11 @@ closing_again never next = refl
 few_orders : (os : List Order) (ws : List Word) → length os ≤ length (flat_map order_words os ++ ws)
 few_orders [] ws = omega arith
 few_orders (o ∷ os) ws =
-  let sum : length ((order_words o ++ flat_map order_words os) ++ ws) ≡ length (order_words o) + length (flat_map order_words os ++ ws) =
+    let sum : length ((order_words o ++ flat_map order_words os) ++ ws) ≡ length (order_words o) + length (flat_map order_words os ++ ws) =
     ap length (append_assoc (order_words o) (flat_map order_words os) ws) ∙ length-append (order_words o) (flat_map order_words os ++ ws) in
-  let some : 1 ≤ length (order_words o) = has_word o in
-  let more = few_orders os ws in
-  omega arith
+    let some : 1 ≤ length (order_words o) = has_word o in
+    let more = few_orders os ws in
+    omega arith
   where
     has_word : (x : Order) → 1 ≤ length (order_words x)
     has_word (wakes name list) = omega arith
@@ -129,20 +129,20 @@ few_orders (o ∷ os) ws =
 row_start_again : (name number : Word) (ws : List Word) → is_name name ≡ true → row_start (name ∷ number ∷ ws) ≡ Some (name, number, ws)
 unfolding row_start word_at
 row_start_again name number ws e =
-  let f : Word × List Word → Option (Word × Word × List Word) = λ found. word_at found.1 >>= λ n. Some (found.0, n.0, n.1) in
-  ap (λ o. o >>= f) (name_again name (number ∷ ws) e)
+    let f : Word × List Word → Option (Word × Word × List Word) = λ found. word_at found.1 >>= λ n. Some (found.0, n.0, n.1) in
+    ap (λ o. o >>= f) (name_again name (number ∷ ws) e)
 
 -- a row
 row_line_again : (line : RowLine) → is_name line.name ≡ true → AreOrders line.orders
-  → row_line (line.name ∷ line.number ∷ (flat_map order_words line.orders ++ (delay_words line.delay ++ codes "next" ∷ line.next ∷ []))) ≡ Some line
+    → row_line (line.name ∷ line.number ∷ (flat_map order_words line.orders ++ (delay_words line.delay ++ codes "next" ∷ line.next ∷ []))) ≡ Some line
 unfolding row_line
 row_line_again line e are =
-  let behind : List Word = flat_map order_words line.orders ++ (delay_words line.delay ++ codes "next" ∷ line.next ∷ []) in
-  let found = orders_again (length behind) line.orders (delay_words line.delay ++ codes "next" ∷ line.next ∷ []) are (no_order line.delay line.next) (few_orders line.orders (delay_words line.delay ++ codes "next" ∷ line.next ∷ [])) in
-  let f : Word × Word × List Word → Option RowLine = λ start. closing (orders_at (length start.2) start.2).1 >>= λ close. Some (record { name = start.0; number = start.1; orders = (orders_at (length start.2) start.2).0; delay = close.0; next = close.1 }) in
-  let g : List Order × List Word → Option RowLine = λ x. closing x.1 >>= λ close. Some (record { name = line.name; number = line.number; orders = x.0; delay = close.0; next = close.1 }) in
-  let h : Delay × Word → Option RowLine = λ close. Some (record { name = line.name; number = line.number; orders = line.orders; delay = close.0; next = close.1 }) in
-  ap (λ o. o >>= f) (row_start_again line.name line.number behind e) ∙ ap g found ∙ ap (λ o. o >>= h) (closing_again line.delay line.next)
+    let behind : List Word = flat_map order_words line.orders ++ (delay_words line.delay ++ codes "next" ∷ line.next ∷ []) in
+    let found = orders_again (length behind) line.orders (delay_words line.delay ++ codes "next" ∷ line.next ∷ []) are (no_order line.delay line.next) (few_orders line.orders (delay_words line.delay ++ codes "next" ∷ line.next ∷ [])) in
+    let f : Word × Word × List Word → Option RowLine = λ start. closing (orders_at (length start.2) start.2).1 >>= λ close. Some (record { name = start.0; number = start.1; orders = (orders_at (length start.2) start.2).0; delay = close.0; next = close.1 }) in
+    let g : List Order × List Word → Option RowLine = λ x. closing x.1 >>= λ close. Some (record { name = line.name; number = line.number; orders = x.0; delay = close.0; next = close.1 }) in
+    let h : Delay × Word → Option RowLine = λ close. Some (record { name = line.name; number = line.number; orders = line.orders; delay = close.0; next = close.1 }) in
+    ap (λ o. o >>= f) (row_start_again line.name line.number behind e) ∙ ap g found ∙ ap (λ o. o >>= h) (closing_again line.delay line.next)
 
 row_again : (line : RowLine) → is_name line.name ≡ true → AreOrders line.orders → body_line (said_words (row line)) ≡ Some (row line)
 unfolding body_line task_said tasklet_said row_said event_said end_said past word_at

@@ -57,9 +57,9 @@ plain_number (suc n) h = plain_decimal (decimal (suc n)) (decimal_nonempty (suc 
 pub number_again : (n : ℕ) → n < 10 ^ 10 → number_of (decimal n) ≡ Some n
 unfolding number_of
 number_again n h =
-  let short : length (decimal n) ≤ 10 = length-decimal-le 10 n (lit< tt) h (omega arith) in
-  let same : digits_value 10 (decimal n) ≡ n = digits_value-decimal (numerals_by_value (AllDigits 10) tells_digits) n (omega arith) in
-  (λ i. only_if (both (is_plain (decimal n)) _ (plain_number n h) (both (list_all is_ascii_digit (decimal n)) _ (own_digits n h) (at_most (length (decimal n)) short)) i) (same i))
+    let short : length (decimal n) ≤ 10 = length-decimal-le 10 n (lit< tt) h (omega arith) in
+    let same : digits_value 10 (decimal n) ≡ n = digits_value-decimal (numerals_by_value (AllDigits 10) tells_digits) n (omega arith) in
+    (λ i. only_if (both (is_plain (decimal n)) _ (plain_number n h) (both (list_all is_ascii_digit (decimal n)) _ (own_digits n h) (at_most (length (decimal n)) short)) i) (same i))
   where
     at_most : (k : ℕ) → k ≤ 10 → nat_le k 10 ≡ true
     at_most k e = grind (arith, nat_tests)
@@ -79,6 +79,7 @@ digit_not_minus (c ∷ ds) some e o is = go (c == 45) (not_minus c (first_of_bot
   where
     not_minus : (k : ℕ) → is_ascii_digit k ≡ true → (k == 45) ≡ false
     not_minus k h = grind (arith, nat_tests)
+
     go : (b : Bool) → b ≡ false → cond b (number_of ds >>= below_zero) (option_map pos (number_of (c ∷ ds))) ≡ option_map pos o
     go true h = absurd (cc)
     go false h = ap (option_map pos) is
@@ -128,7 +129,7 @@ pub name_is_word : (w : Word) → is_name w ≡ true → is_word w ≡ true
 unfolding is_name
 name_is_word [] e = absurd (cc)
 name_is_word (c ∷ cs) e =
-  both (is_word_byte c) _ (letter_is_word c (first_of_both _ _ e)) (all_implied is_name_byte is_word_byte cs name_byte_is_word (second_of_both (nat_le (length cs) 15) _ (second_of_both (is_ascii_lowercase c) _ e)))
+    both (is_word_byte c) _ (letter_is_word c (first_of_both _ _ e)) (all_implied is_name_byte is_word_byte cs name_byte_is_word (second_of_both (nat_le (length cs) 15) _ (second_of_both (is_ascii_lowercase c) _ e)))
 
 -- a test holds of each number below the limit
 abbrev all_below : (ℕ → Bool) → ℕ → Bool
@@ -141,8 +142,10 @@ below_passes test (suc n) k e h = go (λ f. below_passes test n k (second_of_bot
   where
     less : (a b : ℕ) → nat_lt a b ≡ true → a < b
     less a b f = grind (arith, nat_tests)
+
     last : (a b : ℕ) → nat_lt a b ≡ false → a < suc b → b ≡ a
     last a b f g = grind (arith, nat_tests)
+
     go : (k < n → test k ≡ true) → (b : Bool) → nat_lt k n ≡ b → test k ≡ true
     go before true f = before (less k n f)
     go before false f = ap test (sym (last k n f h)) ∙ first_of_both (test n) _ e
@@ -160,6 +163,7 @@ reasons_fine k some few = go (k == 0) refl (below_passes (λ j. j == 0 || (is_va
   where
     none : (a : ℕ) → (a == 0) ≡ true → 0 < a → ⊥
     none a e h = grind (arith, nat_tests)
+
     go : (b : Bool) → (k == 0) ≡ b → (b || (is_value k (reasons_of (reasons_text k)) && is_word (reasons_text k))) ≡ true → (is_value k (reasons_of (reasons_text k)) && is_word (reasons_text k)) ≡ true
     go true f g = absurd (none k f some)
     go false f g = g
@@ -170,6 +174,7 @@ reasons_again k some few = go (reasons_of (reasons_text k)) (first_of_both _ _ (
   where
     same : (a b : ℕ) → (a == b) ≡ true → a ≡ b
     same a b e = grind (arith, nat_tests)
+
     go : (o : Option ℕ) → is_value k o ≡ true → o ≡ Some k
     go None e = absurd (cc)
     go (Some n) e = ap Some (same n k e)
@@ -206,6 +211,7 @@ first_piece at [] rest e = go (at == at) (same at)
   where
     same : (a : ℕ) → (a == a) ≡ true
     same a = grind (arith, nat_tests)
+
     go : (b : Bool) → b ≡ true → cond b ([] ∷ pieces at rest) (onto_first at (pieces at rest)) ≡ [] ∷ pieces at rest
     go true h = refl
     go false h = absurd (cc)
@@ -231,16 +237,16 @@ word_bytes w e = second_of_both (not (is_empty w)) _ e
 words_cut : (w : Word) (ws : List Word) → are_words (w ∷ ws) ≡ true → pieces 32 (join_with_byte 32 (w ∷ ws)) ≡ w ∷ ws
 words_cut w [] e = one_piece 32 w (all_implied is_word_byte (λ b. not (b == 32)) w no_space (word_bytes w (first_of_both _ _ e)))
 words_cut w (v ∷ ws) e =
-  first_piece 32 w (join_with_byte 32 (v ∷ ws)) (all_implied is_word_byte (λ b. not (b == 32)) w no_space (word_bytes w (first_of_both _ _ e)))
-  ∙ ap (λ r. w ∷ r) (words_cut v ws (second_of_both (is_word w) _ e))
+    first_piece 32 w (join_with_byte 32 (v ∷ ws)) (all_implied is_word_byte (λ b. not (b == 32)) w no_space (word_bytes w (first_of_both _ _ e)))
+    ∙ ap (λ r. w ∷ r) (words_cut v ws (second_of_both (is_word w) _ e))
 
 -- a test that words pass, and the spaces between them
 words_pass : (test : ℕ → Bool) (ws : List Word) → test 32 ≡ true → ((b : ℕ) → is_word_byte b ≡ true → test b ≡ true) → are_words ws ≡ true → list_all test (join_with_byte 32 ws) ≡ true
 words_pass test [] space implied e = refl
 words_pass test (w ∷ []) space implied e = all_implied is_word_byte test w implied (word_bytes w (first_of_both _ _ e))
 words_pass test (w ∷ v ∷ ws) space implied e =
-  list_all-append test w (32 ∷ join_with_byte 32 (v ∷ ws))
-  ∙ both _ _ (all_implied is_word_byte test w implied (word_bytes w (first_of_both _ _ e))) (both (test 32) _ space (words_pass test (v ∷ ws) space implied (second_of_both (is_word w) _ e)))
+    list_all-append test w (32 ∷ join_with_byte 32 (v ∷ ws))
+    ∙ both _ _ (all_implied is_word_byte test w implied (word_bytes w (first_of_both _ _ e))) (both (test 32) _ space (words_pass test (v ∷ ws) space implied (second_of_both (is_word w) _ e)))
 
 none_empty : (ws : List Word) → are_words ws ≡ true → list_any is_empty ws ≡ false
 none_empty [] e = refl
@@ -254,10 +260,10 @@ none_empty (w ∷ ws) e = step (is_empty w) (list_any is_empty ws) (first_of_bot
 pub words_again : (w : Word) (ws : List Word) → are_words (w ∷ ws) ≡ true → words_of (join_with_byte 32 (w ∷ ws)) ≡ Some (w ∷ ws)
 unfolding words_of
 words_again w ws e =
-  let cut = words_cut w ws e in
-  let ascii = words_pass (λ b. nat_lt b 128) (w ∷ ws) refl (λ b h. first_of_both _ _ h) e in
-  let whole : not (list_any is_empty (pieces 32 (join_with_byte 32 (w ∷ ws)))) ≡ true = ap (λ ps. not (list_any is_empty ps)) cut ∙ ap not (none_empty (w ∷ ws) e) in
-  λ i. only_if (both _ _ ascii whole i) (cut i)
+    let cut = words_cut w ws e in
+    let ascii = words_pass (λ b. nat_lt b 128) (w ∷ ws) refl (λ b h. first_of_both _ _ h) e in
+    let whole : not (list_any is_empty (pieces 32 (join_with_byte 32 (w ∷ ws)))) ≡ true = ap (λ ps. not (list_any is_empty ps)) cut ∙ ap not (none_empty (w ∷ ws) e) in
+    λ i. only_if (both _ _ ascii whole i) (cut i)
 
 -- and have no line feed
 pub words_one_line : (ws : List Word) → are_words ws ≡ true → list_all (λ b. not (b == 10)) (join_with_byte 32 ws) ≡ true
