@@ -19,6 +19,9 @@ pub mod ListText
 pub mod LineTexts
 pub mod WordsAgain
 pub mod ShapesAgain
+pub mod RunAgain
+pub mod TasksAgain
+pub mod RowsAgain
 pub mod RangeLaws
 pub mod LineLoop
 pub mod ListViews
