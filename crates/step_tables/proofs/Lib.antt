@@ -22,6 +22,7 @@ pub mod ShapesAgain
 pub mod RunAgain
 pub mod TasksAgain
 pub mod RowsAgain
+pub mod RowsRun
 pub mod RangeLaws
 pub mod LineLoop
 pub mod ListViews

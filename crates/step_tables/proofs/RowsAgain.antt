@@ -30,21 +30,21 @@ use Rattle.step_tables.proofs.WordsAgain.{is_word, are_words, number_is_word, is
 use Rattle.step_tables.proofs.RunAgain.{Passes, Runs, runs_to, runs_then, no_kind, both_false}
 use Rattle.step_tables.proofs.TasksAgain.{base, bare, lens, within_outside}
 
-same_word : (w : Word) → bytes_eq w w ≡ true
+pub same_word : (w : Word) → bytes_eq w w ≡ true
 same_word w = (bytes_eq-Decides w w).1 refl
 
-no_other : (a : Bool) → not a ≡ true → a ≡ false
+pub no_other : (a : Bool) → not a ≡ true → a ≡ false
 no_other true k = absurd (cc)
 no_other false k = refl
 
 -- an element of a list of which none passes
-none_at : (test : Word → Bool) (ws : List Word) (i : ℕ) → list_any test ws ≡ false → i < length ws → test (name_at ws i) ≡ false
+pub none_at : (test : Word → Bool) (ws : List Word) (i : ℕ) → list_any test ws ≡ false → i < length ws → test (name_at ws i) ≡ false
 none_at test [] i e h = absurd (omega arith)
 none_at test (w ∷ ws) zero e h = (neither (test w) _ e).0
 none_at test (w ∷ ws) (suc i) e h = none_at test ws i (neither (test w) _ e).1 (omega arith)
 
 -- an element of a list of which each passes
-all_at : (test : Word → Bool) (ws : List Word) (i : ℕ) → list_all test ws ≡ true → i < length ws → test (name_at ws i) ≡ true
+pub all_at : (test : Word → Bool) (ws : List Word) (i : ℕ) → list_all test ws ≡ true → i < length ws → test (name_at ws i) ≡ true
 all_at test [] i e h = absurd (omega arith)
 all_at test (w ∷ ws) zero e h = first_of_both (test w) _ e
 all_at test (w ∷ ws) (suc i) e h = all_at test ws i (second_of_both (test w) _ e) (omega arith)
@@ -67,13 +67,13 @@ first_at (t ∷ ts) (suc i) d h =
     go true e k = absurd (cc)
     go false e k = omega arith
 
-less_test : (a b : ℕ) → a < b → nat_lt a b ≡ true
+pub less_test : (a b : ℕ) → a < b → nat_lt a b ≡ true
 less_test a b h = grind (arith, nat_tests)
 
-test_less : (a b : ℕ) → nat_lt a b ≡ true → a < b
+pub test_less : (a b : ℕ) → nat_lt a b ≡ true → a < b
 test_less a b h = grind (arith, nat_tests)
 
-chosen_then : {A : Type 0} (b : Bool) (x y : A) → b ≡ true → cond b x y ≡ x
+pub chosen_then : {A : Type 0} (b : Bool) (x y : A) → b ≡ true → cond b x y ≡ x
 chosen_then true x y e = refl
 chosen_then false x y e = absurd (cc)
 
@@ -82,12 +82,12 @@ unfolding named
 named_again tasks i d h =
   ap (λ k. cond (nat_lt k (length tasks)) (Some k) None) (first_at tasks i d h) ∙ chosen_then (nat_lt i (length tasks)) (Some i) None (less_test i (length tasks) h)
 
-known_again : (tasks : List TaskDef) (i : ℕ) → distinct_names (names_of tasks) ≡ true → i < length tasks → unknown tasks (name_at (names_of tasks) i) ≡ false
+pub known_again : (tasks : List TaskDef) (i : ℕ) → distinct_names (names_of tasks) ≡ true → i < length tasks → unknown tasks (name_at (names_of tasks) i) ≡ false
 unfolding unknown
 known_again tasks i d h = ap is_none (named_again tasks i d h)
 
 -- an action in range is read as it was written
-action_again : (tasks : List TaskDef) (a : Action) → distinct_names (names_of tasks) ≡ true → is_sound_action (length tasks) a ≡ true → action_of tasks (order_said (names_of tasks) a) ≡ a
+pub action_again : (tasks : List TaskDef) (a : Action) → distinct_names (names_of tasks) ≡ true → is_sound_action (length tasks) a ≡ true → action_of tasks (order_said (names_of tasks) a) ≡ a
 unfolding action_of order_said number_named reasons_named
 action_again tasks (Wake i reasons) d e =
   let range = within_range reasons (second_of_both (nat_lt i.0 (length tasks)) _ e) in
@@ -102,22 +102,22 @@ within_reasons : (k : ℕ) → within 1 127 k ≡ true → (0 < k) × (k < 128)
 within_reasons k f = grind (arith, nat_tests)
 
 -- the name at a task's number is one
-name_fine : (tasks : List TaskDef) (i : ℕ) → list_all is_name (names_of tasks) ≡ true → i < length tasks → is_name (name_at (names_of tasks) i) ≡ true
+pub name_fine : (tasks : List TaskDef) (i : ℕ) → list_all is_name (names_of tasks) ≡ true → i < length tasks → is_name (name_at (names_of tasks) i) ≡ true
 name_fine tasks i fine h = let same = length-map tasks (λ t. t.name) in all_at is_name (names_of tasks) i fine (omega arith)
 
-order_fine : (tasks : List TaskDef) (a : Action) → list_all is_name (names_of tasks) ≡ true → is_sound_action (length tasks) a ≡ true → IsOrder (order_said (names_of tasks) a)
+pub order_fine : (tasks : List TaskDef) (a : Action) → list_all is_name (names_of tasks) ≡ true → is_sound_action (length tasks) a ≡ true → IsOrder (order_said (names_of tasks) a)
 unfolding order_said
 order_fine tasks (Wake i reasons) fine e =
   let range = within_reasons reasons (second_of_both (nat_lt i.0 (length tasks)) _ e) in
   (name_fine tasks i.0 fine (test_less i.0 (length tasks) (first_of_both (nat_lt i.0 (length tasks)) _ e)), ap is_some (reasons_again reasons range.0 range.1))
 order_fine tasks (Kill i) fine e = name_fine tasks i.0 fine (test_less i.0 (length tasks) e)
 
-order_known : (tasks : List TaskDef) (a : Action) → distinct_names (names_of tasks) ≡ true → is_sound_action (length tasks) a ≡ true → unknown tasks (order_name (order_said (names_of tasks) a)) ≡ false
+pub order_known : (tasks : List TaskDef) (a : Action) → distinct_names (names_of tasks) ≡ true → is_sound_action (length tasks) a ≡ true → unknown tasks (order_name (order_said (names_of tasks) a)) ≡ false
 unfolding order_said
 order_known tasks (Wake i reasons) d e = known_again tasks i.0 d (test_less i.0 (length tasks) (first_of_both (nat_lt i.0 (length tasks)) _ e))
 order_known tasks (Kill i) d e = known_again tasks i.0 d (test_less i.0 (length tasks) e)
 
-order_are_words : (tasks : List TaskDef) (a : Action) → list_all is_name (names_of tasks) ≡ true → is_sound_action (length tasks) a ≡ true → are_words (order_words (order_said (names_of tasks) a)) ≡ true
+pub order_are_words : (tasks : List TaskDef) (a : Action) → list_all is_name (names_of tasks) ≡ true → is_sound_action (length tasks) a ≡ true → are_words (order_words (order_said (names_of tasks) a)) ≡ true
 unfolding order_said
 order_are_words tasks (Wake i reasons) fine e =
   let range = within_reasons reasons (second_of_both (nat_lt i.0 (length tasks)) _ e) in
@@ -129,16 +129,16 @@ pub actions_again : (tasks : List TaskDef) (as_ : List Action) → distinct_name
 actions_again tasks [] d e = refl
 actions_again tasks (a ∷ as_) d e = λ i. action_again tasks a d (first_of_both _ _ e) i ∷ actions_again tasks as_ d (second_of_both (is_sound_action (length tasks) a) _ e) i
 
-orders_fine : (tasks : List TaskDef) (as_ : List Action) → list_all is_name (names_of tasks) ≡ true → list_all (is_sound_action (length tasks)) as_ ≡ true → AreOrders (map (order_said (names_of tasks)) as_)
+pub orders_fine : (tasks : List TaskDef) (as_ : List Action) → list_all is_name (names_of tasks) ≡ true → list_all (is_sound_action (length tasks)) as_ ≡ true → AreOrders (map (order_said (names_of tasks)) as_)
 orders_fine tasks [] fine e = tt
 orders_fine tasks (a ∷ as_) fine e = (order_fine tasks a fine (first_of_both _ _ e), orders_fine tasks as_ fine (second_of_both (is_sound_action (length tasks) a) _ e))
 
-orders_known : (tasks : List TaskDef) (as_ : List Action) → distinct_names (names_of tasks) ≡ true → list_all (is_sound_action (length tasks)) as_ ≡ true → list_any (λ o. unknown tasks (order_name o)) (map (order_said (names_of tasks)) as_) ≡ false
+pub orders_known : (tasks : List TaskDef) (as_ : List Action) → distinct_names (names_of tasks) ≡ true → list_all (is_sound_action (length tasks)) as_ ≡ true → list_any (λ o. unknown tasks (order_name o)) (map (order_said (names_of tasks)) as_) ≡ false
 orders_known tasks [] d e = refl
 orders_known tasks (a ∷ as_) d e =
   both_false (unknown tasks (order_name (order_said (names_of tasks) a))) _ (order_known tasks a d (first_of_both _ _ e)) (orders_known tasks as_ d (second_of_both (is_sound_action (length tasks) a) _ e))
 
-orders_are_words : (tasks : List TaskDef) (as_ : List Action) → list_all is_name (names_of tasks) ≡ true → list_all (is_sound_action (length tasks)) as_ ≡ true → are_words (flat_map order_words (map (order_said (names_of tasks)) as_)) ≡ true
+pub orders_are_words : (tasks : List TaskDef) (as_ : List Action) → list_all is_name (names_of tasks) ≡ true → list_all (is_sound_action (length tasks)) as_ ≡ true → are_words (flat_map order_words (map (order_said (names_of tasks)) as_)) ≡ true
 orders_are_words tasks [] fine e = refl
 orders_are_words tasks (a ∷ as_) fine e =
   list_all-append is_word (order_words (order_said (names_of tasks) a)) (flat_map order_words (map (order_said (names_of tasks)) as_))
@@ -151,7 +151,7 @@ ticks_small n e = let h = most n e in omega arith
     most k f = grind (arith, nat_tests)
 
 -- an expiry in range
-delay_number : (kind : Kind) (e : Expiry) → is_sound_expiry kind e ≡ true → delay_no_number (delay_said e) ≡ false
+pub delay_number : (kind : Kind) (e : Expiry) → is_sound_expiry kind e ≡ true → delay_no_number (delay_said e) ≡ false
 unfolding delay_no_number delay_said
 delay_number kind Keep h = refl
 delay_number (Pinned home nice) (After ticks) h = is_number ticks (ticks_small ticks h)
@@ -159,7 +159,7 @@ delay_number (Shared nice) (After ticks) h = absurd (cc)
 delay_number (Tasklet home class) (After ticks) h = absurd (cc)
 delay_number kind Never h = refl
 
-delay_inside : (kind : Kind) (e : Expiry) → is_sound_expiry kind e ≡ true → delay_outside (delay_said e) ≡ false
+pub delay_inside : (kind : Kind) (e : Expiry) → is_sound_expiry kind e ≡ true → delay_outside (delay_said e) ≡ false
 unfolding delay_outside delay_said
 delay_inside kind Keep h = refl
 delay_inside (Pinned home nice) (After ticks) h = ap (outside 1 1073741824) (value_again ticks (ticks_small ticks h)) ∙ within_outside 1 1073741824 ticks h
@@ -167,7 +167,7 @@ delay_inside (Shared nice) (After ticks) h = absurd (cc)
 delay_inside (Tasklet home class) (After ticks) h = absurd (cc)
 delay_inside kind Never h = refl
 
-delay_allowed : (kind : Kind) (e : Expiry) → is_sound_expiry kind e ≡ true → (is_timerless kind && is_expiry (delay_said e)) ≡ false
+pub delay_allowed : (kind : Kind) (e : Expiry) → is_sound_expiry kind e ≡ true → (is_timerless kind && is_expiry (delay_said e)) ≡ false
 unfolding delay_said
 delay_allowed (Pinned home nice) e h = refl
 delay_allowed (Shared nice) Keep h = refl
@@ -177,7 +177,7 @@ delay_allowed (Tasklet home class) (After ticks) h = absurd (cc)
 delay_allowed (Shared nice) Never h = absurd (cc)
 delay_allowed (Tasklet home class) Never h = absurd (cc)
 
-expiry_again : (kind : Kind) (e : Expiry) → is_sound_expiry kind e ≡ true → expiry_of (delay_said e) ≡ e
+pub expiry_again : (kind : Kind) (e : Expiry) → is_sound_expiry kind e ≡ true → expiry_of (delay_said e) ≡ e
 unfolding expiry_of delay_said
 expiry_again kind Keep h = refl
 expiry_again (Pinned home nice) (After ticks) h = ap After (value_again ticks (ticks_small ticks h))
@@ -185,7 +185,7 @@ expiry_again (Shared nice) (After ticks) h = absurd (cc)
 expiry_again (Tasklet home class) (After ticks) h = absurd (cc)
 expiry_again kind Never h = refl
 
-delay_are_words : (kind : Kind) (e : Expiry) → is_sound_expiry kind e ≡ true → are_words (delay_words (delay_said e)) ≡ true
+pub delay_are_words : (kind : Kind) (e : Expiry) → is_sound_expiry kind e ≡ true → are_words (delay_words (delay_said e)) ≡ true
 unfolding delay_said
 delay_are_words kind Keep h = refl
 delay_are_words (Pinned home nice) (After ticks) h = both true _ refl (both _ true (number_is_word ticks (ticks_small ticks h)) refl)

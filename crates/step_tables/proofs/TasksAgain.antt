@@ -151,7 +151,7 @@ new_name (w ∷ before) name behind e =
     other [] k = (neither (bytes_eq w name) _ k).0
     other (v ∷ ws) k = other ws (neither (bytes_eq w v) _ k).1
 
-bare_names : (tasks : List TaskDef) → names_of (map bare tasks) ≡ names_of tasks
+pub bare_names : (tasks : List TaskDef) → names_of (map bare tasks) ≡ names_of tasks
 bare_names [] = refl
 bare_names (t ∷ ts) = ap (λ ns. t.name ∷ ns) (bare_names ts)
 
