@@ -23,6 +23,7 @@ pub mod RunAgain
 pub mod TasksAgain
 pub mod RowsAgain
 pub mod RowsRun
+pub mod TextAgain
 pub mod RangeLaws
 pub mod LineLoop
 pub mod ListViews

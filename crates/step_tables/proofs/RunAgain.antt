@@ -93,7 +93,7 @@ body_said_again n x behind body words =
   ∙ ap (λ o. said_in o (said_words x)) (get_past (Workers ∷ Depth ∷ Start ∷ Step ∷ Rounds ∷ []) (n - 2) (omega arith))
   ∙ body_again x body
 
-lines_some : (xs : List Said) → is_empty (map bytes_of xs ++ [] ∷ []) ≡ false
+pub lines_some : (xs : List Said) → is_empty (map bytes_of xs ++ [] ∷ []) ≡ false
 lines_some [] = refl
 lines_some (x ∷ xs) = refl
 
@@ -108,7 +108,7 @@ run_lines n p q (x ∷ xs) behind r e =
   ∙ run_lines (n + 1) (with_line p x) q xs (omega arith) r.1 e
 
 -- a setting's line
-setting_words : (setting : Setting) (n : ℕ) → n < 10 ^ 10 → are_words (said_words (sets setting (decimal n))) ≡ true
+pub setting_words : (setting : Setting) (n : ℕ) → n < 10 ^ 10 → are_words (said_words (sets setting (decimal n))) ≡ true
 setting_words setting n h = both _ _ (named setting) (both _ true (number_is_word n h) refl)
   where
     named : (x : Setting) → is_word (setting_name x) ≡ true
