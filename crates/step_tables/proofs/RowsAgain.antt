@@ -1,10 +1,9 @@
 -- The row lines of a script in range pass.
-use Rattle.std.proofs.Common.{◌≡◌, ℕ, suc, zero, ◌+◌, ◌-◌, ◌^◌, ◌≤◌, ◌<◌, Bool, true, false, cond, List, [], ◌∷◌, ◌++◌, map, length, set, get_or, refl, ap, sym, ◌∙◌, arith, inl, inr, ◌⊎◌, subst, append_assoc, append-nil, length-append, lit<}
-use Rattle.std.specs.Prelude.{Option, Some, None, is_none, is_some, unwrap_or, bytes_eq, codes, ◌&&◌, ◌||◌, not, ◌==◌, nat_lt, nat_le, decimal, slice_get, slice_index, flat_map, if◌then◌else◌}
+use Rattle.std.proofs.Common.{◌≡◌, ℕ, suc, zero, ◌+◌, ◌^◌, ◌≤◌, ◌<◌, Bool, true, false, cond, List, [], ◌∷◌, map, length, refl, ap, ◌∙◌, arith}
+use Rattle.std.specs.Prelude.{Some, None, is_none, is_some, unwrap_or, bytes_eq, ◌&&◌, not, nat_lt, nat_le, decimal, flat_map}
 use Rattle.std.specs.List.{list_all, list_any, position_or_len}
 use Rattle.std.proofs.lemmas.Bool.Decides.{nat_tests}
-use Rattle.std.proofs.lemmas.Option.{none-some}
-use Rattle.std.proofs.lemmas.List.{map-append, length-map}
+use Rattle.std.proofs.lemmas.List.{length-map}
 use Rattle.std.proofs.lemmas.List.Folds.{list_all-append}
 use Rattle.step_tables.specs.declared.tables.Action.{Action}
 use Rattle.step_tables.specs.declared.tables.Action.TheVariants.{Wake, Kill}
@@ -14,21 +13,18 @@ use Rattle.step_tables.specs.declared.tables.Kind.{Kind}
 use Rattle.step_tables.specs.declared.tables.Kind.TheVariants.{Pinned, Shared, Tasklet}
 use Rattle.step_tables.specs.declared.tables.Row.{Row}
 use Rattle.step_tables.specs.declared.tables.TaskDef.{TaskDef}
-use Rattle.step_tables.specs.declared.tables.Event.{Event}
-use Rattle.step_tables.specs.declared.tables.Script.{Script}
-use Rattle.step_tables.specs.declared.progress.Progress.{Progress}
-use Rattle.step_tables.specs.Words.{Word, is_empty, is_name, reasons_of}
-use Rattle.step_tables.specs.Shapes.{Order, wakes, kills, Delay, keeps, after, never, RowLine, Said, row}
-use Rattle.step_tables.specs.Text.{order_words, delay_words, said_words, name_at, reasons_text, order_said, delay_said, row_said, rows_said, names_of}
-use Rattle.step_tables.specs.Sound.{within, is_sound_action, is_sound_expiry, is_sound_row, is_sound_task, distinct_names}
-use Rattle.step_tables.specs.Judging.{first_fault, tests, may_come, all_rows, due, promised, value, no_number, outside, delay_no_number, delay_outside, named, unknown, number_named, order_name, reasons_named, action_of, expiry_of, row_of, wrong_target, barred, is_timerless, is_expiry, with_row_at_end, with_row, with_line}
+use Rattle.step_tables.specs.Words.{Word, is_name}
+use Rattle.step_tables.specs.Shapes.{RowLine}
+use Rattle.step_tables.specs.Text.{order_words, delay_words, name_at, order_said, delay_said, names_of}
+use Rattle.step_tables.specs.Sound.{within, is_sound_action, is_sound_expiry, is_sound_row, distinct_names}
+use Rattle.step_tables.specs.Judging.{outside, delay_no_number, delay_outside, named, unknown, number_named, order_name, reasons_named, action_of, expiry_of, row_of, is_timerless, is_expiry}
 use Rattle.std.proofs.lemmas.Slice.Eq.{bytes_eq-Decides}
 use Rattle.step_tables.proofs.Good.{neither}
 use Rattle.step_tables.proofs.RowsOf.{both, first_of_both, second_of_both}
 use Rattle.step_tables.proofs.Back.{IsOrder, AreOrders}
 use Rattle.step_tables.proofs.WordsAgain.{is_word, are_words, number_is_word, is_number, value_again, name_is_word, reasons_again, reasons_is_word}
-use Rattle.step_tables.proofs.RunAgain.{Passes, Runs, runs_to, runs_then, no_kind, both_false}
-use Rattle.step_tables.proofs.TasksAgain.{base, bare, lens, within_outside}
+use Rattle.step_tables.proofs.RunAgain.{both_false}
+use Rattle.step_tables.proofs.TasksAgain.{within_outside}
 
 pub same_word : (w : Word) → bytes_eq w w ≡ true
 same_word w = (bytes_eq-Decides w w).1 refl
@@ -58,11 +54,12 @@ first_at (t ∷ ts) zero d h = go (bytes_eq t.name t.name) (same_word t.name)
     go true e = refl
     go false e = absurd (cc)
 first_at (t ∷ ts) (suc i) d h =
-  go (bytes_eq t.name (name_at (names_of ts) i)) (none_at (λ o. bytes_eq t.name o) (names_of ts) i (no_other _ (first_of_both _ _ d)) (short (omega arith)))
+    go (bytes_eq t.name (name_at (names_of ts) i)) (none_at (λ o. bytes_eq t.name o) (names_of ts) i (no_other _ (first_of_both _ _ d)) (short (omega arith)))
     (first_at ts i (second_of_both (not (list_any (λ o. bytes_eq t.name o) (names_of ts))) _ d) (omega arith))
   where
     short : i < length ts → i < length (names_of ts)
     short k = let same = length-map ts (λ u. u.name) in omega arith
+
     go : (b : Bool) → b ≡ false → position_or_len (λ u. bytes_eq u.name (name_at (names_of ts) i)) ts ≡ i → cond (not b) (1 + position_or_len (λ u. bytes_eq u.name (name_at (names_of ts) i)) ts) 0 ≡ suc i
     go true e k = absurd (cc)
     go false e k = omega arith
@@ -80,7 +77,7 @@ chosen_then false x y e = absurd (cc)
 named_again : (tasks : List TaskDef) (i : ℕ) → distinct_names (names_of tasks) ≡ true → i < length tasks → named tasks (name_at (names_of tasks) i) ≡ Some i
 unfolding named
 named_again tasks i d h =
-  ap (λ k. cond (nat_lt k (length tasks)) (Some k) None) (first_at tasks i d h) ∙ chosen_then (nat_lt i (length tasks)) (Some i) None (less_test i (length tasks) h)
+    ap (λ k. cond (nat_lt k (length tasks)) (Some k) None) (first_at tasks i d h) ∙ chosen_then (nat_lt i (length tasks)) (Some i) None (less_test i (length tasks) h)
 
 pub known_again : (tasks : List TaskDef) (i : ℕ) → distinct_names (names_of tasks) ≡ true → i < length tasks → unknown tasks (name_at (names_of tasks) i) ≡ false
 unfolding unknown
@@ -90,8 +87,8 @@ known_again tasks i d h = ap is_none (named_again tasks i d h)
 pub action_again : (tasks : List TaskDef) (a : Action) → distinct_names (names_of tasks) ≡ true → is_sound_action (length tasks) a ≡ true → action_of tasks (order_said (names_of tasks) a) ≡ a
 unfolding action_of order_said number_named reasons_named
 action_again tasks (Wake i reasons) d e =
-  let range = within_range reasons (second_of_both (nat_lt i.0 (length tasks)) _ e) in
-  λ j. Wake (record { 0 = unwrap_or (named_again tasks i.0 d (test_less i.0 (length tasks) (first_of_both (nat_lt i.0 (length tasks)) _ e)) j) 0 })
+    let range = within_range reasons (second_of_both (nat_lt i.0 (length tasks)) _ e) in
+    λ j. Wake (record { 0 = unwrap_or (named_again tasks i.0 d (test_less i.0 (length tasks) (first_of_both (nat_lt i.0 (length tasks)) _ e)) j) 0 })
     (unwrap_or (reasons_again reasons range.0 range.1 j) 0)
   where
     within_range : (k : ℕ) → within 1 127 k ≡ true → (0 < k) × (k < 128)
@@ -108,8 +105,8 @@ name_fine tasks i fine h = let same = length-map tasks (λ t. t.name) in all_at 
 pub order_fine : (tasks : List TaskDef) (a : Action) → list_all is_name (names_of tasks) ≡ true → is_sound_action (length tasks) a ≡ true → IsOrder (order_said (names_of tasks) a)
 unfolding order_said
 order_fine tasks (Wake i reasons) fine e =
-  let range = within_reasons reasons (second_of_both (nat_lt i.0 (length tasks)) _ e) in
-  (name_fine tasks i.0 fine (test_less i.0 (length tasks) (first_of_both (nat_lt i.0 (length tasks)) _ e)), ap is_some (reasons_again reasons range.0 range.1))
+    let range = within_reasons reasons (second_of_both (nat_lt i.0 (length tasks)) _ e) in
+    (name_fine tasks i.0 fine (test_less i.0 (length tasks) (first_of_both (nat_lt i.0 (length tasks)) _ e)), ap is_some (reasons_again reasons range.0 range.1))
 order_fine tasks (Kill i) fine e = name_fine tasks i.0 fine (test_less i.0 (length tasks) e)
 
 pub order_known : (tasks : List TaskDef) (a : Action) → distinct_names (names_of tasks) ≡ true → is_sound_action (length tasks) a ≡ true → unknown tasks (order_name (order_said (names_of tasks) a)) ≡ false
@@ -120,9 +117,9 @@ order_known tasks (Kill i) d e = known_again tasks i.0 d (test_less i.0 (length 
 pub order_are_words : (tasks : List TaskDef) (a : Action) → list_all is_name (names_of tasks) ≡ true → is_sound_action (length tasks) a ≡ true → are_words (order_words (order_said (names_of tasks) a)) ≡ true
 unfolding order_said
 order_are_words tasks (Wake i reasons) fine e =
-  let range = within_reasons reasons (second_of_both (nat_lt i.0 (length tasks)) _ e) in
-  let name = name_fine tasks i.0 fine (test_less i.0 (length tasks) (first_of_both (nat_lt i.0 (length tasks)) _ e)) in
-  both true _ refl (both _ _ (name_is_word (name_at (names_of tasks) i.0) name) (both _ true (reasons_is_word reasons range.0 range.1) refl))
+    let range = within_reasons reasons (second_of_both (nat_lt i.0 (length tasks)) _ e) in
+    let name = name_fine tasks i.0 fine (test_less i.0 (length tasks) (first_of_both (nat_lt i.0 (length tasks)) _ e)) in
+    both true _ refl (both _ _ (name_is_word (name_at (names_of tasks) i.0) name) (both _ true (reasons_is_word reasons range.0 range.1) refl))
 order_are_words tasks (Kill i) fine e = both true _ refl (both _ true (name_is_word (name_at (names_of tasks) i.0) (name_fine tasks i.0 fine (test_less i.0 (length tasks) e))) refl)
 
 pub actions_again : (tasks : List TaskDef) (as_ : List Action) → distinct_names (names_of tasks) ≡ true → list_all (is_sound_action (length tasks)) as_ ≡ true → map (action_of tasks) (map (order_said (names_of tasks)) as_) ≡ as_
@@ -136,13 +133,13 @@ orders_fine tasks (a ∷ as_) fine e = (order_fine tasks a fine (first_of_both _
 pub orders_known : (tasks : List TaskDef) (as_ : List Action) → distinct_names (names_of tasks) ≡ true → list_all (is_sound_action (length tasks)) as_ ≡ true → list_any (λ o. unknown tasks (order_name o)) (map (order_said (names_of tasks)) as_) ≡ false
 orders_known tasks [] d e = refl
 orders_known tasks (a ∷ as_) d e =
-  both_false (unknown tasks (order_name (order_said (names_of tasks) a))) _ (order_known tasks a d (first_of_both _ _ e)) (orders_known tasks as_ d (second_of_both (is_sound_action (length tasks) a) _ e))
+    both_false (unknown tasks (order_name (order_said (names_of tasks) a))) _ (order_known tasks a d (first_of_both _ _ e)) (orders_known tasks as_ d (second_of_both (is_sound_action (length tasks) a) _ e))
 
 pub orders_are_words : (tasks : List TaskDef) (as_ : List Action) → list_all is_name (names_of tasks) ≡ true → list_all (is_sound_action (length tasks)) as_ ≡ true → are_words (flat_map order_words (map (order_said (names_of tasks)) as_)) ≡ true
 orders_are_words tasks [] fine e = refl
 orders_are_words tasks (a ∷ as_) fine e =
-  list_all-append is_word (order_words (order_said (names_of tasks) a)) (flat_map order_words (map (order_said (names_of tasks)) as_))
-  ∙ both _ _ (order_are_words tasks a fine (first_of_both _ _ e)) (orders_are_words tasks as_ fine (second_of_both (is_sound_action (length tasks) a) _ e))
+    list_all-append is_word (order_words (order_said (names_of tasks) a)) (flat_map order_words (map (order_said (names_of tasks)) as_))
+    ∙ both _ _ (order_are_words tasks a fine (first_of_both _ _ e)) (orders_are_words tasks as_ fine (second_of_both (is_sound_action (length tasks) a) _ e))
 
 ticks_small : (n : ℕ) → within 1 1073741824 n ≡ true → n < 10 ^ 10
 ticks_small n e = let h = most n e in omega arith
@@ -198,16 +195,17 @@ abbrev pub row_line_of : List Word → Word → ℕ → Row → RowLine
 row_line_of names name k r = record { name = name; number = decimal k; orders = map (order_said names) r.actions; delay = delay_said r.expiry; next = decimal r.next }
 
 pub row_again_of : (tasks : List TaskDef) (kind : Kind) (rows : ℕ) (name : Word) (k : ℕ) (r : Row) → distinct_names (names_of tasks) ≡ true → rows ≤ 64 → is_sound_row (length tasks) kind rows r ≡ true
-  → row_of tasks (row_line_of (names_of tasks) name k r) ≡ r
+    → row_of tasks (row_line_of (names_of tasks) name k r) ≡ r
 unfolding row_of
 row_again_of tasks kind rows name k r d few e =
-  let e_2 = second_of_both (nat_le (length r.actions) 16) _ e in
-  let e_3 = second_of_both (list_all (is_sound_action (length tasks)) r.actions) _ e_2 in
-  let next : r.next < rows = test_less r.next rows (second_of_both (is_sound_expiry kind r.expiry) _ e_3) in
-  λ i. record {
-    actions = actions_again tasks r.actions d (first_of_both (list_all (is_sound_action (length tasks)) r.actions) _ e_2) i;
-    expiry = expiry_again kind r.expiry (first_of_both (is_sound_expiry kind r.expiry) _ e_3) i;
-    next = value_again r.next (small rows few r.next next) i }
+    let e_2 = second_of_both (nat_le (length r.actions) 16) _ e in
+    let e_3 = second_of_both (list_all (is_sound_action (length tasks)) r.actions) _ e_2 in
+    let next : r.next < rows = test_less r.next rows (second_of_both (is_sound_expiry kind r.expiry) _ e_3) in
+    λ i. record {
+      actions = actions_again tasks r.actions d (first_of_both (list_all (is_sound_action (length tasks)) r.actions) _ e_2) i;
+      expiry = expiry_again kind r.expiry (first_of_both (is_sound_expiry kind r.expiry) _ e_3) i;
+      next = value_again r.next (small rows few r.next next) i;
+    }
   where
     small : (a : ℕ) → a ≤ 64 → (b : ℕ) → b < a → b < 10 ^ 10
     small a h b l = omega arith
