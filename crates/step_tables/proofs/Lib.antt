@@ -19,6 +19,11 @@ pub mod ListText
 pub mod LineTexts
 pub mod WordsAgain
 pub mod ShapesAgain
+pub mod RunAgain
+pub mod TasksAgain
+pub mod RowsAgain
+pub mod RowsRun
+pub mod TextAgain
 pub mod RangeLaws
 pub mod LineLoop
 pub mod ListViews

@@ -1,15 +1,12 @@
 -- What words say is what was said: from a shape to its words and back to the shape.
-use Rattle.std.proofs.Common.{◌≡◌, ℕ, suc, zero, ◌+◌, ◌-◌, ◌≤◌, ◌<◌, Bool, true, false, List, [], ◌∷◌, ◌++◌, map, length, refl, ap, sym, ◌∙◌, arith, append_assoc, append-nil, length-append}
-use Rattle.std.specs.Prelude.{Option, Some, None, codes, is_some, unwrap_or, flat_map, ◌&&◌, not}
-use Rattle.std.specs.List.{list_all}
-use Rattle.std.proofs.lemmas.Option.{none-some}
-use Rattle.std.proofs.lemmas.List.Folds.{list_all-append}
+use Rattle.std.proofs.Common.{◌≡◌, ℕ, suc, zero, ◌+◌, ◌≤◌, Bool, true, false, List, [], ◌∷◌, ◌++◌, length, refl, ap, sym, ◌∙◌, arith, append_assoc, append-nil, length-append}
+use Rattle.std.specs.Prelude.{Option, Some, None, codes, is_some, flat_map}
 use Rattle.sched_base.specs.declared.names.Class.{Class}
 use Rattle.step_tables.specs.declared.shapes.Setting.{Setting}
 use Rattle.step_tables.specs.declared.shapes.Setting.TheVariants.{Workers, Depth, Start, Step, Rounds}
-use Rattle.step_tables.specs.Words.{Word, ◌>>=◌, ◌or_else◌, only_if, is_empty, is_name, reasons_of, class_of}
-use Rattle.step_tables.specs.Shapes.{Order, wakes, kills, Delay, keeps, after, never, Place, pinned, shared, tasklet, TaskLine, RowLine, EventLine, Said, sets, task, row, event, ends, word_at, past, word_past, name_at, at_end, init_at, pinned_at, shared_at, tasklet_at, task_place_at, task_end, task_line, tasklet_line, wake_at, kill_at, order_at, and_more, orders_at, after_at, never_at, delay_at, closing, row_start, row_line, event_line, setting_name, setting_line, task_said, tasklet_said, row_said, event_said, end_said, body_line}
-use Rattle.step_tables.specs.Text.{class_name, order_words, delay_words, init_words, place_words, task_word, said_words}
+use Rattle.step_tables.specs.Words.{Word, ◌>>=◌, ◌or_else◌, only_if, is_empty, is_name, reasons_of}
+use Rattle.step_tables.specs.Shapes.{Order, wakes, kills, Delay, keeps, after, never, Place, pinned, shared, tasklet, TaskLine, RowLine, EventLine, Said, sets, task, row, event, ends, word_at, past, word_past, name_at, at_end, init_at, pinned_at, shared_at, tasklet_at, task_place_at, task_end, task_line, tasklet_line, wake_at, kill_at, order_at, and_more, orders_at, after_at, never_at, delay_at, closing, row_start, row_line, event_line, setting_line, task_said, tasklet_said, row_said, event_said, end_said, body_line}
+use Rattle.step_tables.specs.Text.{class_name, order_words, delay_words, init_words, said_words}
 use Rattle.step_tables.proofs.Back.{IsOrder, AreOrders, IsBody}
 use Rattle.step_tables.proofs.WordsAgain.{class_again}
 

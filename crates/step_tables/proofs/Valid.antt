@@ -91,7 +91,7 @@ map_set f (v ∷ xs) zero x y e same = let is : v ≡ x = cc in ap (λ w. w ∷ 
 map_set f (v ∷ xs) (suc i) x y e same = ap (λ ws. f v ∷ ws) (map_set f xs i x y e same)
 
 -- the round of the last event, or this one
-abbrev last_from : ℕ → List Event → ℕ
+abbrev pub last_from : ℕ → List Event → ℕ
 last_from from [] = from
 last_from from (e ∷ es) = last_from e.round es
 
@@ -100,7 +100,7 @@ inside [] i k l = omega arith
 inside (y ∷ ys) zero k l = cc
 inside (y ∷ ys) (suc i) k l = inside ys i k (omega arith)
 
-last_is : (from : ℕ) (es : List Event) → unwrap_or (option_map (λ e. e.round) (slice_get es (length es - 1))) from ≡ last_from from es
+pub last_is : (from : ℕ) (es : List Event) → unwrap_or (option_map (λ e. e.round) (slice_get es (length es - 1))) from ≡ last_from from es
 last_is from [] = refl
 last_is from (e ∷ []) = refl
 last_is from (e ∷ f ∷ es) =

@@ -113,7 +113,7 @@ pub record BodyLine (line : List ℕ) (p q : Progress) : Type 0 where
   pub unended : p.ended ≡ false
   pub adds : Adds p said q
 
-get_past : {A : Type 0} (xs : List A) (i : ℕ) → length xs ≤ i → slice_get xs i ≡ None
+pub get_past : {A : Type 0} (xs : List A) (i : ℕ) → length xs ≤ i → slice_get xs i ≡ None
 get_past [] i h = refl
 get_past (x ∷ xs) zero h = absurd (omega arith)
 get_past (x ∷ xs) (suc i) h = get_past xs i (omega arith)

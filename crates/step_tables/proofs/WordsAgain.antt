@@ -1,7 +1,7 @@
 -- From values to words, and back to the same values.
-use Rattle.std.proofs.Common.{◌≡◌, ℕ, suc, zero, ◌+◌, ◌*◌, ◌-◌, ◌^◌, ◌≤◌, ◌<◌, Bool, true, false, cond, List, [], ◌∷◌, ◌++◌, length, get_or, refl, ap, sym, ◌∙◌, arith, inl, inr, ◌⊎◌, subst, lit<, lit≤, append-nil}
-use Rattle.std.specs.Prelude.{Option, Some, None, option_map, is_none, unwrap_or, bytes_eq, not, ◌&&◌, ◌||◌, ◌==◌, nat_lt, nat_le, decimal, codes, ℤ, pos, negsuc, if◌then◌else◌}
-use Rattle.std.specs.List.{list_all, list_any, join_with_byte, slice_split, onto_first}
+use Rattle.std.proofs.Common.{◌≡◌, ℕ, suc, zero, ◌^◌, ◌≤◌, ◌<◌, Bool, true, false, cond, List, [], ◌∷◌, ◌++◌, length, get_or, refl, ap, sym, ◌∙◌, arith, lit<}
+use Rattle.std.specs.Prelude.{Option, Some, None, option_map, is_none, unwrap_or, not, ◌&&◌, ◌||◌, ◌==◌, nat_lt, nat_le, decimal, ℤ, pos, negsuc}
+use Rattle.std.specs.List.{list_all, list_any, join_with_byte, onto_first}
 use Rattle.std.specs.Char.{is_ascii_digit, is_ascii_lowercase, digit_value}
 use Rattle.std.specs.Fmt.{signed_decimal}
 use Rattle.std.specs.Str.Parse.{digits_value, AllDigits}
@@ -11,9 +11,9 @@ use Rattle.std.proofs.lemmas.Fmt.{digits_value-decimal, digits_decimal, decimal_
 use Rattle.std.proofs.lemmas.Str.Parse.{numerals_by_value, tells_digits}
 use Rattle.sched_base.specs.declared.names.Class.{Class}
 use Rattle.sched_base.specs.declared.names.Class.TheVariants.{Urgent, Normal, Bulk, Heavy}
-use Rattle.step_tables.specs.Words.{Word, ◌>>=◌, only_if, pieces, is_empty, words_of, is_plain, number_of, below_zero, signed_of, is_name_byte, is_name, bits_of, reason_names, reasons_of, class_of}
-use Rattle.step_tables.specs.Text.{class_name, reasons_in, reasons_text}
-use Rattle.step_tables.specs.Judging.{value, signed_value, no_number, no_signed, reasons_named}
+use Rattle.step_tables.specs.Words.{Word, ◌>>=◌, only_if, pieces, is_empty, words_of, is_plain, number_of, below_zero, signed_of, is_name_byte, is_name, reasons_of, class_of}
+use Rattle.step_tables.specs.Text.{class_name, reasons_text}
+use Rattle.step_tables.specs.Judging.{value, signed_value, no_number, no_signed}
 use Rattle.step_tables.proofs.RowsOf.{both, first_of_both, second_of_both}
 
 -- a byte of a word: ASCII, no space and no line feed

@@ -17,3 +17,9 @@ pub fn read_back()
     ensures { (bytes : List ℕ) (s : Script) → script_of bytes ≡ Ok s
         → (bytes ≡ script_text s) × (length bytes ≤ byte_limit) }
 {}
+
+/// The text of a script in range, if it has at most 4,194,304 bytes, is read as that script.
+pub fn read_again()
+    ensures { (s : Script) → is_sound s ≡ true → length (script_text s) ≤ byte_limit
+        → script_of (script_text s) ≡ Ok s }
+{}
