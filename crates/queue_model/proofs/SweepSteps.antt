@@ -1,5 +1,5 @@
 -- What one look at the first item of a wait list means for a step of a sweep.
-use Rattle.std.proofs.Common.{◌≡◌, ℕ, ◌+◌, ◌≤◌, ◌<◌, Bool, true, false, cond, not, eqb, List, [], ◌∷◌, ◌++◌, Option, Some, None, map, drop, set, get_or, length, ◌≤ℤ◌, ◌<ℤ◌, refl, sym, ap, ◌∙◌, arith, inl, inr}
+use Rattle.std.proofs.Common.{◌≡◌, ℕ, Bool, true, false, not, eqb, List, [], ◌∷◌, ◌++◌, Some, None, map, drop, set, get_or, ◌≤ℤ◌, ◌<ℤ◌, refl, sym, ap, ◌∙◌, arith, inl, inr}
 use Rattle.std.specs.Prelude.{ℤ, pos, int_le, fold, filter}
 use Rattle.std.specs.List.{AllByRecursion}
 use Rattle.std.proofs.lemmas.Int.{ints}
@@ -9,11 +9,11 @@ use Rattle.std.proofs.lemmas.List.Elements.{filter-append}
 use Rattle.sched_base.specs.KeyedList.{inserted}
 use Rattle.sched_base.proofs.Inserted.{Answers, inserted-append_right, filter-inserted_out, filter-all, filter-none, filter-passes, all-weaker, all-inserted}
 use Rattle.queue_model.specs.Ticks.{distance, is_set, is_expired}
-use Rattle.queue_model.specs.WaitList.{WaitItem, WaitList, expiry_of, placed}
+use Rattle.queue_model.specs.WaitList.{WaitItem, WaitList, placed}
 use Rattle.queue_model.specs.Sweep.{due}
-use Rattle.queue_model.specs.SweepStep.{before, onward, fires, passed, halted, first_task, first_fired, unset_first, left, put_again, stepped}
+use Rattle.queue_model.specs.SweepStep.{before, onward, fires, first_fired, unset_first, stepped}
 
-int_le-fails : (x y : ℤ) → int_le x y ≡ false → y <ℤ x
+pub int_le-fails : (x y : ℤ) → int_le x y ≡ false → y <ℤ x
 int_le-fails x y h = grind (arith, ints)
 
 -- whether an item's key is expired
@@ -38,12 +38,12 @@ pub none_due : (now : ℕ) (y : WaitItem) (ys : List WaitItem) → is_due now y 
 none_due now y ys h first =
     rw h (empty (filter (is_due now) ys) (filter-passes (is_due now) ys) (rw h at first))
   where
-  empty : (zs : List WaitItem) → Answers true (is_due now) zs → zs ++ y ∷ ahead now ys ≡ y ∷ ys → zs ≡ []
-  empty [] all e = refl
-  empty (z ∷ zs) all e =
-      let same : z ≡ y = cc in
-      let both : true ≡ false = sym all.0 ∙ ap (is_due now) same ∙ h in
-      cc
+    empty : (zs : List WaitItem) → Answers true (is_due now) zs → zs ++ y ∷ ahead now ys ≡ y ∷ ys → zs ≡ []
+    empty [] all e = refl
+    empty (z ∷ zs) all e =
+        let same : z ≡ y = cc in
+        let both : true ≡ false = sym all.0 ∙ ap (is_due now) same ∙ h in
+        cc
 
 pub due_first_rest : (now : ℕ) (y : WaitItem) (ys : List WaitItem) → is_due now y ≡ true → DueFirst now (y ∷ ys) → DueFirst now ys
 due_first_rest now y ys h first = let e : y ∷ (filter (is_due now) ys ++ ahead now ys) ≡ y ∷ ys = rw h at first in cc
@@ -53,31 +53,31 @@ pub step_settled : (now : ℕ) (l : WaitList) → due now l ≡ [] → (first_fi
 step_settled now l none =
     (rw none refl, rw none (ap (λ (ys : List WaitItem). let m : WaitList = record { items = ys; expiries = l.expiries } in m) (filter-all (λ (y : WaitItem). not (is_due now y)) l.items (all_ahead l.items none))))
   where
-  all_ahead : (ys : List WaitItem) → filter (is_due now) ys ≡ [] → Answers true (λ (y : WaitItem). not (is_due now y)) ys
-  all_ahead [] h = tt
-  all_ahead (y ∷ ys) h =
-      elim (cases_Bool (is_due now y)) [
-        | inl k ↦ let s = rw k at h in cc
-        | inr k ↦ (not_from_false (is_due now y) k, all_ahead ys (rw k at h))
-      ]
+    all_ahead : (ys : List WaitItem) → filter (is_due now) ys ≡ [] → Answers true (λ (y : WaitItem). not (is_due now y)) ys
+    all_ahead [] h = tt
+    all_ahead (y ∷ ys) h =
+        elim (cases_Bool (is_due now y)) [
+          | inl k ↦ let s = rw k at h in cc
+          | inr k ↦ (not_from_false (is_due now y) k, all_ahead ys (rw k at h))
+        ]
 
 -- what is due lies before what is set and still ahead
 pub due_before : (now t : ℕ) (zs : List WaitItem) → is_set t ≡ true → is_expired t now ≡ false → Answers true (is_due now) zs → Answers true (λ (z : WaitItem). int_le (distance z.key now) (distance t now)) zs
 due_before now t zs armed later all =
     all-weaker (λ (z : WaitItem). is_due now z ≡ true) (λ (z : WaitItem). int_le (distance z.key now) (distance t now) ≡ true) zs (λ z h.
-      let lt : pos 0 <ℤ distance t now = ahead_of t armed later in
-      let le : distance z.key now ≤ℤ pos 0 = behind z.key h in
-      let both : distance z.key now ≤ℤ distance t now = omega (arith, ints) in int_le-true _ _ both) all
+    let lt : pos 0 <ℤ distance t now = ahead_of t armed later in
+    let le : distance z.key now ≤ℤ pos 0 = behind z.key h in
+    let both : distance z.key now ≤ℤ distance t now = omega (arith, ints) in int_le-true _ _ both) all
   where
-  ahead_of : (t : ℕ) → is_set t ≡ true → is_expired t now ≡ false → pos 0 <ℤ distance t now
-  ahead_of t armed later = int_le-fails (distance t now) (pos 0) (rw (not-true (eqb t 0) armed) at later)
+    ahead_of : (t : ℕ) → is_set t ≡ true → is_expired t now ≡ false → pos 0 <ℤ distance t now
+    ahead_of t armed later = int_le-fails (distance t now) (pos 0) (rw (not-true (eqb t 0) armed) at later)
 
-  behind : (k : ℕ) → is_expired k now ≡ true → distance k now ≤ℤ pos 0
-  behind k h =
-      elim (cases_Bool (eqb k 0)) [
-        | inl e ↦ absurd (false≢true (rw e at h))
-        | inr e ↦ int_le-holds (distance k now) (pos 0) (rw e at h)
-      ]
+    behind : (k : ℕ) → is_expired k now ≡ true → distance k now ≤ℤ pos 0
+    behind k h =
+        elim (cases_Bool (eqb k 0)) [
+          | inl e ↦ absurd (false≢true (rw e at h))
+          | inr e ↦ int_le-holds (distance k now) (pos 0) (rw e at h)
+        ]
 
 pub all-onward : {X : Type 0} (P : X → Type 0) (f : X → Bool) (xs : List X) → AllByRecursion P xs → AllByRecursion P (onward f xs)
 all-onward P f [] all = tt

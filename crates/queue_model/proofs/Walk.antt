@@ -1,13 +1,12 @@
 -- A walk that begins half the circle back comes to the items in the order of their distance.
-use Rattle.std.proofs.Common.{◌≡◌, ℕ, ◌+◌, ◌-◌, ◌%◌, ◌^◌, ◌≤◌, ◌<◌, Bool, true, false, cond, not, leb, ltb, List, [], ◌∷◌, ◌++◌, Option, Some, None, map, refl, sym, ap, ◌∙◌, arith, inl, inr, ◌≤ℤ◌, ◌<ℤ◌, pos, ◌+ℤ◌}
+use Rattle.std.proofs.Common.{◌≡◌, ℕ, ◌+◌, ◌-◌, ◌%◌, ◌^◌, ◌≤◌, ◌<◌, Bool, true, false, cond, leb, ltb, List, [], ◌∷◌, ◌++◌, Option, None, refl, sym, ap, ◌∙◌, arith, inl, inr, ◌≤ℤ◌, ◌<ℤ◌, pos, ◌+ℤ◌}
 use Rattle.std.specs.Prelude.{ℤ, int_le}
 use Rattle.std.specs.List.{filter, find, list_any, AllByRecursion}
-use Rattle.std.specs.Option.{option_map}
 use Rattle.std.specs.Int.{w32, cast_signed}
 use Rattle.std.proofs.lemmas.Int.{ints, to_z_pos}
-use Rattle.std.proofs.lemmas.Bool.{cases_Bool, or_parts, false≢true, cases_lt, lt-ltb, le-ltb, lt-leb, le-leb, leb-true, leb-false, ltb-true, ltb-false}
+use Rattle.std.proofs.lemmas.Bool.{cases_Bool, or_parts, false≢true, cases_lt, lt-ltb, le-ltb, lt-leb, le-leb, leb-true, leb-false, ltb-true}
 use Rattle.std.proofs.lemmas.List.Elements.{filter-append}
-use Rattle.sched_base.specs.KeyedList.{KeyedItem, KeyedList, inserted, IsRising, first_entry, entry_from}
+use Rattle.sched_base.specs.KeyedList.{KeyedItem, inserted, IsRising, first_entry, entry_from}
 use Rattle.sched_base.proofs.Inserted.{Answers, inserted-append_left, inserted-append_right, inserted-agree, filter-inserted_in, filter-inserted_out, filter-passes, filter-all, filter-none, filter_comm, all-filter, all-append, all-weaker, all-both, rising-filter}
 use Rattle.queue_model.specs.Ticks.{distance}
 use Rattle.queue_model.specs.Walk.{half_back, turned, walked, either_entry, HasTicks, IsByDistance}
@@ -64,22 +63,22 @@ first_walked start items =
     elim (cases_Bool (list_any (λ (y : KeyedItem). leb start y.key) items)) [
       | inl some ↦ here items some (filter (λ (y : KeyedItem). ltb y.key start) items) (first_entry items)
       | inr none ↦
-        let all = no_item items none in
-        rw (filter-none (λ (y : KeyedItem). leb start y.key) items all, filter-all (λ (y : KeyedItem). ltb y.key start) items (all-weaker (λ (y : KeyedItem). leb start y.key ≡ false) (λ (y : KeyedItem). ltb y.key start ≡ true) items (λ y h. lt-ltb _ _ (leb-false _ _ h)) all), not_found items none) refl
+          let all = no_item items none in
+          rw (filter-none (λ (y : KeyedItem). leb start y.key) items all, filter-all (λ (y : KeyedItem). ltb y.key start) items (all-weaker (λ (y : KeyedItem). leb start y.key ≡ false) (λ (y : KeyedItem). ltb y.key start ≡ true) items (λ y h. lt-ltb _ _ (leb-false _ _ h)) all), not_found items none) refl
     ]
   where
-  here : (xs : List KeyedItem) → list_any (λ (y : KeyedItem). leb start y.key) xs ≡ true → (low : List KeyedItem) (other : Option ℕ) → first_entry (filter (λ (y : KeyedItem). leb start y.key) xs ++ low) ≡ either_entry (entry_from start xs) other
-  here [] h low other = absurd (false≢true h)
-  here (y ∷ ys) h low other =
-      elim (cases_Bool (leb start y.key)) [ inl k ↦ rw k refl | inr k ↦ rw k (here ys (rw k at h) low other) ]
+    here : (xs : List KeyedItem) → list_any (λ (y : KeyedItem). leb start y.key) xs ≡ true → (low : List KeyedItem) (other : Option ℕ) → first_entry (filter (λ (y : KeyedItem). leb start y.key) xs ++ low) ≡ either_entry (entry_from start xs) other
+    here [] h low other = absurd (false≢true h)
+    here (y ∷ ys) h low other =
+        elim (cases_Bool (leb start y.key)) [ inl k ↦ rw k refl | inr k ↦ rw k (here ys (rw k at h) low other) ]
 
-  no_item : (xs : List KeyedItem) → list_any (λ (y : KeyedItem). leb start y.key) xs ≡ false → Answers false (λ (y : KeyedItem). leb start y.key) xs
-  no_item [] h = tt
-  no_item (y ∷ ys) h = let p = or_parts (leb start y.key) _ h in (p.0, no_item ys p.1)
+    no_item : (xs : List KeyedItem) → list_any (λ (y : KeyedItem). leb start y.key) xs ≡ false → Answers false (λ (y : KeyedItem). leb start y.key) xs
+    no_item [] h = tt
+    no_item (y ∷ ys) h = let p = or_parts (leb start y.key) _ h in (p.0, no_item ys p.1)
 
-  not_found : (xs : List KeyedItem) → list_any (λ (y : KeyedItem). leb start y.key) xs ≡ false → find (λ (y : KeyedItem). leb start y.key) xs ≡ None
-  not_found [] h = refl
-  not_found (y ∷ ys) h = let p = or_parts (leb start y.key) _ h in rw p.0 (not_found ys p.1)
+    not_found : (xs : List KeyedItem) → list_any (λ (y : KeyedItem). leb start y.key) xs ≡ false → find (λ (y : KeyedItem). leb start y.key) xs ≡ None
+    not_found [] h = refl
+    not_found (y ∷ ys) h = let p = or_parts (leb start y.key) _ h in rw p.0 (not_found ys p.1)
 
 -- an insertion by key is one by distance in the walk
 pub walked-inserted : (now key : ℕ) (x : KeyedItem) (items : List KeyedItem) → now < 2 ^ 32 → key < 2 ^ 32 → x.key ≡ key → HasTicks items → IsRising items → walked now (inserted (λ (y : KeyedItem). leb y.key key) x items) ≡ inserted (λ (y : KeyedItem). int_le (distance y.key now) (distance key now)) x (walked now items)
@@ -93,17 +92,17 @@ walked-inserted now key x items n k own ticks rising =
     let low : AllByRecursion (λ (y : KeyedItem). (y.key < 2 ^ 32) × (lo y ≡ true)) (filter lo items) = all-both (λ (y : KeyedItem). y.key < 2 ^ 32) (λ (y : KeyedItem). lo y ≡ true) (filter lo items) (all-filter (λ (y : KeyedItem). y.key < 2 ^ 32) lo items ticks) (filter-passes lo items) in
     elim (cases_lt key p) [
       | inl before ↦
-        let out : filter hi (inserted by_key x items) ≡ filter hi items = filter-inserted_out hi by_key x items (rw own (lt-leb p key before)) in
-        let in' : filter lo (inserted by_key x items) ≡ inserted by_key x (filter lo items) = filter-inserted_in lo key x items (rw own (lt-ltb key p before)) rising in
-        let passed : Answers true s (filter hi items) = all-weaker (λ (y : KeyedItem). (y.key < 2 ^ 32) × (hi y ≡ true)) (λ (y : KeyedItem). s y ≡ true) (filter hi items) (λ y h. order_is now y.key key n h.0 k ∙ rw (h.1, lt-leb p key before) (le-leb _ _ (omega arith))) high in
-        let same : AllByRecursion (λ (y : KeyedItem). by_key y ≡ s y) (filter lo items) = all-weaker (λ (y : KeyedItem). (y.key < 2 ^ 32) × (lo y ≡ true)) (λ (y : KeyedItem). by_key y ≡ s y) (filter lo items) (λ y h. let lt : y.key < p = ltb-true y.key p h.1 in sym (order_is now y.key key n h.0 k ∙ rw (lt-leb p key before, lt-leb p y.key lt) (leb_plus y.key key _ _ (λ h. omega arith) (λ h. omega arith)))) low in
-        rw (out, in') (rw (inserted-append_right s x (filter hi items) (filter lo items) passed) (ap (λ (zs : List KeyedItem). filter hi items ++ zs) (inserted-agree by_key s x (filter lo items) same)))
+          let out : filter hi (inserted by_key x items) ≡ filter hi items = filter-inserted_out hi by_key x items (rw own (lt-leb p key before)) in
+          let in' : filter lo (inserted by_key x items) ≡ inserted by_key x (filter lo items) = filter-inserted_in lo key x items (rw own (lt-ltb key p before)) rising in
+          let passed : Answers true s (filter hi items) = all-weaker (λ (y : KeyedItem). (y.key < 2 ^ 32) × (hi y ≡ true)) (λ (y : KeyedItem). s y ≡ true) (filter hi items) (λ y h. order_is now y.key key n h.0 k ∙ rw (h.1, lt-leb p key before) (le-leb _ _ (omega arith))) high in
+          let same : AllByRecursion (λ (y : KeyedItem). by_key y ≡ s y) (filter lo items) = all-weaker (λ (y : KeyedItem). (y.key < 2 ^ 32) × (lo y ≡ true)) (λ (y : KeyedItem). by_key y ≡ s y) (filter lo items) (λ y h. let lt : y.key < p = ltb-true y.key p h.1 in sym (order_is now y.key key n h.0 k ∙ rw (lt-leb p key before, lt-leb p y.key lt) (leb_plus y.key key _ _ (λ h. omega arith) (λ h. omega arith)))) low in
+          rw (out, in') (rw (inserted-append_right s x (filter hi items) (filter lo items) passed) (ap (λ (zs : List KeyedItem). filter hi items ++ zs) (inserted-agree by_key s x (filter lo items) same)))
       | inr after ↦
-        let in' : filter hi (inserted by_key x items) ≡ inserted by_key x (filter hi items) = filter-inserted_in hi key x items (rw own (le-leb p key after)) rising in
-        let out : filter lo (inserted by_key x items) ≡ filter lo items = filter-inserted_out lo by_key x items (rw own (le-ltb key p after)) in
-        let stopped : Answers false s (filter lo items) = all-weaker (λ (y : KeyedItem). (y.key < 2 ^ 32) × (lo y ≡ true)) (λ (y : KeyedItem). s y ≡ false) (filter lo items) (λ y h. let lt : y.key < p = ltb-true y.key p h.1 in order_is now y.key key n h.0 k ∙ rw (le-leb p key after, lt-leb p y.key lt) (lt-leb _ _ (omega arith))) low in
-        let same : AllByRecursion (λ (y : KeyedItem). by_key y ≡ s y) (filter hi items) = all-weaker (λ (y : KeyedItem). (y.key < 2 ^ 32) × (hi y ≡ true)) (λ (y : KeyedItem). by_key y ≡ s y) (filter hi items) (λ y h. let le : p ≤ y.key = leb-true p y.key h.1 in sym (order_is now y.key key n h.0 k ∙ rw (h.1, le-leb p key after) (leb_plus y.key key _ _ (λ h. omega arith) (λ h. omega arith)))) high in
-        rw (out, in') (rw (inserted-append_left s x (filter hi items) (filter lo items) stopped) (ap (λ (zs : List KeyedItem). zs ++ filter lo items) (inserted-agree by_key s x (filter hi items) same)))
+          let in' : filter hi (inserted by_key x items) ≡ inserted by_key x (filter hi items) = filter-inserted_in hi key x items (rw own (le-leb p key after)) rising in
+          let out : filter lo (inserted by_key x items) ≡ filter lo items = filter-inserted_out lo by_key x items (rw own (le-ltb key p after)) in
+          let stopped : Answers false s (filter lo items) = all-weaker (λ (y : KeyedItem). (y.key < 2 ^ 32) × (lo y ≡ true)) (λ (y : KeyedItem). s y ≡ false) (filter lo items) (λ y h. let lt : y.key < p = ltb-true y.key p h.1 in order_is now y.key key n h.0 k ∙ rw (le-leb p key after, lt-leb p y.key lt) (lt-leb _ _ (omega arith))) low in
+          let same : AllByRecursion (λ (y : KeyedItem). by_key y ≡ s y) (filter hi items) = all-weaker (λ (y : KeyedItem). (y.key < 2 ^ 32) × (hi y ≡ true)) (λ (y : KeyedItem). by_key y ≡ s y) (filter hi items) (λ y h. let le : p ≤ y.key = leb-true p y.key h.1 in sym (order_is now y.key key n h.0 k ∙ rw (h.1, le-leb p key after) (leb_plus y.key key _ _ (λ h. omega arith) (λ h. omega arith)))) high in
+          rw (out, in') (rw (inserted-append_left s x (filter hi items) (filter lo items) stopped) (ap (λ (zs : List KeyedItem). zs ++ filter lo items) (inserted-agree by_key s x (filter hi items) same)))
     ]
 
 -- a deletion in the walk
@@ -133,14 +132,15 @@ pub side_by_distance : (now : ℕ) (b : Bool) (xs : List KeyedItem) → now < 2 
 side_by_distance now b [] n rising side = tt
 side_by_distance now b (x ∷ xs) n rising side =
     let R : KeyedItem → Type 0 = λ y. x.key ≤ y.key in
-    let S : KeyedItem → Type 0 = λ y. (y.key < 2 ^ 32) × (leb (half_back now) y.key ≡ b) in
-    (all-weaker (λ (y : KeyedItem). R y × S y) (λ (y : KeyedItem). distance x.key now ≤ℤ distance y.key now) xs (λ y h.
-      distance_from_gone now x.key y.key n side.0.0 h.1.0 (same_side b (half_back now) x.key y.key side.0.1 h.1.1 h.0)) (all-both R S xs rising.0 side.1),
-    side_by_distance now b xs n rising.1 side.1)
+    let S : KeyedItem → Type 0 = λ y. (y.key < 2 ^ 32) × (leb (half_back now) y.key ≡ b) in (
+      all-weaker (λ (y : KeyedItem). R y × S y) (λ (y : KeyedItem). distance x.key now ≤ℤ distance y.key now) xs (λ y h.
+          distance_from_gone now x.key y.key n side.0.0 h.1.0 (same_side b (half_back now) x.key y.key side.0.1 h.1.1 h.0)) (all-both R S xs rising.0 side.1),
+      side_by_distance now b xs n rising.1 side.1,
+    )
   where
-  same_side : (b : Bool) (p k m : ℕ) → leb p k ≡ b → leb p m ≡ b → k ≤ m → gone p k ≤ gone p m
-  same_side true p k m hk hm le = rw (hk, hm) (omega arith)
-  same_side false p k m hk hm le = rw (hk, hm) (omega arith)
+    same_side : (b : Bool) (p k m : ℕ) → leb p k ≡ b → leb p m ≡ b → k ≤ m → gone p k ≤ gone p m
+    same_side true p k m hk hm le = rw (hk, hm) (omega arith)
+    same_side false p k m hk hm le = rw (hk, hm) (omega arith)
 
 -- the walk comes to the items in the order of their distance
 pub walked_by_distance : (now : ℕ) (items : List KeyedItem) → now < 2 ^ 32 → HasTicks items → IsRising items → IsByDistance now (walked now items)
@@ -153,8 +153,8 @@ walked_by_distance now items n ticks rising =
     let low : AllByRecursion (λ (y : KeyedItem). tick y × (lo y ≡ true)) (filter lo items) = all-both tick (λ (y : KeyedItem). lo y ≡ true) (filter lo items) (all-filter tick lo items ticks) (filter-passes lo items) in
     let low' : AllByRecursion (λ (y : KeyedItem). tick y × (hi y ≡ false)) (filter lo items) = all-weaker (λ (y : KeyedItem). tick y × (lo y ≡ true)) (λ (y : KeyedItem). tick y × (hi y ≡ false)) (filter lo items) (λ y h. (h.0, lt-leb p y.key (ltb-true y.key p h.1))) low in
     by_distance-append now (filter hi items) (filter lo items)
-      (side_by_distance now true (filter hi items) n (rising-filter hi items rising) high)
-      (side_by_distance now false (filter lo items) n (rising-filter lo items rising) low')
-      (all-weaker (λ (x : KeyedItem). tick x × (hi x ≡ true)) (λ (x : KeyedItem). AllByRecursion (λ (y : KeyedItem). distance x.key now ≤ℤ distance y.key now) (filter lo items)) (filter hi items) (λ x h.
-        all-weaker (λ (y : KeyedItem). tick y × (hi y ≡ false)) (λ (y : KeyedItem). distance x.key now ≤ℤ distance y.key now) (filter lo items) (λ y g.
-          distance_from_gone now x.key y.key n h.0 g.0 (rw (h.1, g.1) (let k : p ≤ x.key = leb-true p x.key h.1 in let k' : x.key < 2 ^ 32 = h.0 in omega arith))) low') high)
+    (side_by_distance now true (filter hi items) n (rising-filter hi items rising) high)
+    (side_by_distance now false (filter lo items) n (rising-filter lo items rising) low')
+    (all-weaker (λ (x : KeyedItem). tick x × (hi x ≡ true)) (λ (x : KeyedItem). AllByRecursion (λ (y : KeyedItem). distance x.key now ≤ℤ distance y.key now) (filter lo items)) (filter hi items) (λ x h.
+    all-weaker (λ (y : KeyedItem). tick y × (hi y ≡ false)) (λ (y : KeyedItem). distance x.key now ≤ℤ distance y.key now) (filter lo items) (λ y g.
+    distance_from_gone now x.key y.key n h.0 g.0 (rw (h.1, g.1) (let k : p ≤ x.key = leb-true p x.key h.1 in let k' : x.key < 2 ^ 32 = h.0 in omega arith))) low') high)

@@ -1,9 +1,8 @@
 -- Which items a walk comes to.
-use Rattle.std.proofs.Common.{◌≡◌, ℕ, ◌≤◌, ◌<◌, ◌^◌, Bool, true, false, cond, not, eqb, leb, ltb, List, [], ◌∷◌, ◌++◌, Option, Some, None, refl, sym, ap, ◌∙◌, arith, inl, inr}
-use Rattle.std.specs.List.{filter, find, list_any, AllByRecursion}
-use Rattle.std.proofs.lemmas.Bool.{cases_Bool, cases_lt, lt-ltb, le-ltb, lt-leb, le-leb, leb-true, ltb-true, eqb-true}
+use Rattle.std.proofs.Common.{◌≡◌, ℕ, Bool, false, leb, ltb, List, [], ◌∷◌, Option, Some, None, refl, sym, ap, ◌∙◌, inl, inr}
+use Rattle.std.specs.List.{filter, find}
+use Rattle.std.proofs.lemmas.Bool.{cases_lt, lt-ltb, le-ltb, le-leb, leb-true, eqb-true}
 use Rattle.sched_base.specs.KeyedList.{KeyedItem, is_entry, first_entry, IsOnce}
-use Rattle.sched_base.proofs.Inserted.{Answers}
 use Rattle.sched_base.proofs.Once.{In, in_all, all_in, in-append_left, in-append_right, in-append, in-filter, in_filtered, found_in, not_found, none_found, in_find, once-filter, once-append, parts_apart}
 use Rattle.queue_model.specs.Walk.{half_back, walked}
 
@@ -36,12 +35,12 @@ find_walked now entry items once =
     let P : Option KeyedItem → Type 0 = λ o. find (is_entry entry) items ≡ o → find (is_entry entry) (walked now items) ≡ o in
     let both : (o : Option KeyedItem) → P o = λ o. elim o as P [
       | Some y ↦ λ h.
-        let w = found_in (is_entry entry) y items h in
-        let same : y.entry ≡ entry = eqb-true y.entry entry w.1 in
-        ap (λ e. find (is_entry e) (walked now items)) (sym same) ∙ in_find y (walked now items) (once_walked now items once) (in_walked now y items w.0)
+          let w = found_in (is_entry entry) y items h in
+          let same : y.entry ≡ entry = eqb-true y.entry entry w.1 in
+          ap (λ e. find (is_entry e) (walked now items)) (sym same) ∙ in_find y (walked now items) (once_walked now items once) (in_walked now y items w.0)
       | None ↦ λ h.
-        let none = not_found (is_entry entry) items h in
-        none_found (is_entry entry) (walked now items) (all_in (λ (y : KeyedItem). is_entry entry y ≡ false) (walked now items) (λ y k. in_all (λ (z : KeyedItem). is_entry entry z ≡ false) y items none (walked_in now y items k)))
+          let none = not_found (is_entry entry) items h in
+          none_found (is_entry entry) (walked now items) (all_in (λ (y : KeyedItem). is_entry entry y ≡ false) (walked now items) (λ y k. in_all (λ (z : KeyedItem). is_entry entry z ≡ false) y items none (walked_in now y items k)))
     ] in
     both (find (is_entry entry) items) refl
 

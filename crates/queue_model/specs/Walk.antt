@@ -1,7 +1,7 @@
 -- Keyed lists in the order in which a walk comes to them that begins half the circle back (docs/TIMERS.md, "Walks").
 use Rattle.std.specs.Prelude.{ℕ, ◌+◌, ◌-◌, ◌%◌, ◌^◌, ◌<◌, nat_le, nat_lt, List, [], ◌∷◌, ◌++◌, Option, None, Some, filter, ◌≤ℤ◌}
 use Rattle.std.specs.List.{AllByRecursion}
-use Rattle.sched_base.specs.KeyedList.{KeyedItem, first_entry, entry_from}
+use Rattle.sched_base.specs.KeyedList.{KeyedItem}
 use Rattle.queue_model.specs.Ticks.{distance}
 
 -- the tick half the circle before now

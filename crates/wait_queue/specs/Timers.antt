@@ -15,6 +15,11 @@ pub record Timers : Type 0 where
 abbrev pub entry_of : ℕ → ℕ
 entry_of task = 2 * task
 
+-- the same root, and as many expiries
+pub record IsSameQueue (q r : Timers) : Type 0 where
+  pub root : r.root ≡ q.root
+  pub tasks : length r.expiries ≡ length q.expiries
+
 -- an item of the root as one of the wait list
 abbrev pub wait_item : KeyedItem → WaitItem
 wait_item y = record { key = y.key; task = y.entry / 2 }

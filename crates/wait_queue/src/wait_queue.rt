@@ -1,11 +1,14 @@
 //! The wait queue, over keyed lists that the caller lends.
 
-ghost use Rattle.std.specs.Prelude.{◌≡◌, ◌+◌, ◌^◌, ◌<◌, length, slice_index, replicate, IfOk, ℕ};
+ghost use Rattle.std.specs.Prelude.{◌≡◌, ◌+◌, ◌^◌, ◌<◌, length, slice_index, replicate, IfOk, IfNone, [], ℕ};
+ghost use Rattle.std.specs.Option.{option_map};
 ghost use Rattle.sched_base.specs.KeyedList.{KeyedRoots, root_at, first_entry, ChangesRoot};
 ghost use Rattle.queue_model.specs.WaitList.{WaitList, expiry_of, with_expiry, armed, unlinked};
+ghost use Rattle.queue_model.specs.Sweep.{due};
 ghost use Rattle.queue_model.specs.SweepStep.{first_fired, stepped};
 ghost use Rattle.queue_model.specs.Walk.{walked};
-ghost use Rattle.wait_queue.specs.Timers.{Timers, wait_list, Fits, IsReady, Inserts, insertions_of, first_key, key_of_task, is_none_left};
+ghost use Rattle.wait_queue.specs.Looks.{Saw, IfSettled};
+ghost use Rattle.wait_queue.specs.Timers.{wait_list, Fits, IsReady, IsSameQueue, Inserts, insertions_of, first_key, key_of_task, is_none_left};
 
 use sched_base::{KeyedLists, TaskId};
 use std::alloc::{AllocError, Global};
@@ -14,6 +17,17 @@ use ticks::{ETERNITY, is_expired, is_lt, is_set};
 
 /// How far back a walk over the keys begins, in milliseconds: half the circle.
 const LOOK_BACK: u32 = 1 << 31;
+
+/// What one look at the item that is due first came to.
+#[derive(Debug)]
+enum Look {
+    /// No key is expired.
+    Settled,
+    /// The item was put back or forgotten.
+    Passed,
+    /// The item is out, and the timer of its task fires.
+    Fired(TaskId),
+}
 
 /// The timers of some tasks. Their items stand in one root of keyed lists that the caller lends at
 /// each call: task i has the entry `2 * i`. Contracts see the root and, for each task, the tick at
@@ -73,13 +87,115 @@ impl WaitQueue {
         }
     }
 
+    /// Puts a task in at its expiry, if that is set and the task has no item. A task that has one
+    /// moves only where its expiry lies before its key.
+    pub fn arm<K: KeyedLists>(&mut self, lists: &mut K, id: TaskId, now: u32)
+        requires fits { Fits self.old (K.seen lists.old) }
+        requires exists { id.0 < length self.old.expiries }
+        requires room { insertions_of self.old (K.seen lists.old) + 1 < 2 ^ 63 }
+        ensures list { wait_list now self.new (K.seen lists.new) ≡ armed now id.0 (wait_list now self.old (K.seen lists.old)) }
+        ensures fits { Fits self.new (K.seen lists.new) }
+        ensures others { ChangesRoot self.old.root (K.seen lists.old) (K.seen lists.new) }
+        ensures insertions { Inserts 1 self.old (K.seen lists.old) (K.seen lists.new) }
+        ensures queue { self.new ≡ self.old }
+    {
+        let expiry = self.expiries[id.0 as usize];
+        if !is_set(expiry) {
+            return;
+        }
+        let entry = 2 * id.0;
+        let Some(key) = self.key(lists, id) else {
+            lists.insert(self.root, entry, expiry);
+            return;
+        };
+        if !is_lt(expiry, key) {
+            return;
+        }
+        lists.delete(entry);
+        lists.insert(self.root, entry, expiry);
+    }
+
+    /// Drops a task: it has no item any more, and it is never due.
+    pub fn unlink<K: KeyedLists>(&mut self, lists: &mut K, id: TaskId)
+        requires fits { Fits self.old (K.seen lists.old) }
+        requires exists { id.0 < length self.old.expiries }
+        ensures list { (now : ℕ) → wait_list now self.new (K.seen lists.new) ≡ unlinked id.0 (wait_list now self.old (K.seen lists.old)) }
+        ensures fits { Fits self.new (K.seen lists.new) }
+        ensures others { ChangesRoot self.old.root (K.seen lists.old) (K.seen lists.new) }
+        ensures insertions { Inserts 0 self.old (K.seen lists.old) (K.seen lists.new) }
+        ensures root { self.new.root ≡ self.old.root }
+    {
+        self.expiries[id.0 as usize] = ETERNITY;
+        let entry = 2 * id.0;
+        if lists.root_of(entry).is_none() {
+            return;
+        }
+        lists.delete(entry);
+    }
+
+    /// Looks at the item that is due first: takes it out if its key is expired, and puts it back at
+    /// its expiry if that is still ahead.
+    fn look<K: KeyedLists>(&mut self, lists: &mut K, now: u32) -> Look
+        requires fits { Fits self.old (K.seen lists.old) }
+        requires room { insertions_of self.old (K.seen lists.old) + length (due now (wait_list now self.old (K.seen lists.old))) < 2 ^ 63 }
+        ensures saw { Saw result now (wait_list now self.old (K.seen lists.old)) (wait_list now self.new (K.seen lists.new)) }
+        ensures untouched { IfSettled result (K.seen lists.new ≡ K.seen lists.old) }
+        ensures fits { Fits self.new (K.seen lists.new) }
+        ensures others { ChangesRoot self.old.root (K.seen lists.old) (K.seen lists.new) }
+        ensures insertions { Inserts 1 self.old (K.seen lists.old) (K.seen lists.new) }
+        ensures queue { IsSameQueue self.old self.new }
+    {
+        let Some(entry) = self.first_walked(lists, now) else {
+            return Look::Settled;
+        };
+        if !is_expired(lists.key_of(entry), now) {
+            return Look::Settled;
+        }
+        lists.delete(entry);
+        let task = entry / 2;
+        let expiry = self.expiries[task as usize];
+        if is_expired(expiry, now) {
+            self.expiries[task as usize] = ETERNITY;
+            return Look::Fired(TaskId(task));
+        }
+        if !is_set(expiry) {
+            return Look::Passed;
+        }
+        lists.insert(self.root, entry, expiry);
+        Look::Passed
+    }
+
+    /// Goes on with the sweep at `now` up to the first timer that fires, and answers its task. None
+    /// where no timer fires any more; then no key that is left is expired.
+    pub fn sweep_next<K: KeyedLists>(&mut self, lists: &mut K, now: u32) -> Option<TaskId>
+        requires fits { Fits self.old (K.seen lists.old) }
+        requires room { insertions_of self.old (K.seen lists.old) + length self.old.expiries < 2 ^ 63 }
+        ensures fired { option_map (λ id. id.0) result ≡ first_fired now (wait_list now self.old (K.seen lists.old)) }
+        ensures list { wait_list now self.new (K.seen lists.new) ≡ stepped now (wait_list now self.old (K.seen lists.old)) }
+        ensures settled { IfNone result (due now (wait_list now self.new (K.seen lists.new)) ≡ []) }
+        ensures fits { Fits self.new (K.seen lists.new) }
+        ensures others { ChangesRoot self.old.root (K.seen lists.old) (K.seen lists.new) }
+        ensures insertions { Inserts (length self.old.expiries) self.old (K.seen lists.old) (K.seen lists.new) }
+        ensures queue { IsSameQueue self.old self.new }
+    {
+        loop {
+            match self.look(lists, now) {
+                Look::Settled => return None,
+                Look::Passed => {}
+                Look::Fired(id) => return Some(id),
+            }
+        }
+    }
+
     /// The key of the item that is due first; none where there is no item.
     pub fn next_expiry<K: KeyedLists>(&self, lists: &K, now: u32) -> Option<u32>
         requires { Fits self.now (K.seen lists.now) }
         ensures { result ≡ first_key (wait_list now self.now (K.seen lists.now)).items }
     {
-        let entry = self.first_walked(lists, now)?;
-        Some(lists.key_of(entry))
+        match self.first_walked(lists, now) {
+            Some(entry) => Some(lists.key_of(entry)),
+            None => None,
+        }
     }
 
     /// The key under which a task stands; none where it has no item.
@@ -89,7 +205,9 @@ impl WaitQueue {
         ensures { (now : ℕ) → result ≡ key_of_task id.0 (wait_list now self.now (K.seen lists.now)).items }
     {
         let entry = 2 * id.0;
-        lists.root_of(entry)?;
+        if lists.root_of(entry).is_none() {
+            return None;
+        }
         Some(lists.key_of(entry))
     }
 

@@ -1,0 +1,3 @@
+pub mod FirstItem
+pub mod Meaning
+pub mod SoFar
