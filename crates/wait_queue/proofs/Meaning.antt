@@ -1,11 +1,11 @@
 -- What insertions and deletions in the lists mean for the wait list.
-use Rattle.std.proofs.Common.{◌≡◌, ℕ, ◌+◌, ◌*◌, ◌/◌, ◌^◌, ◌≤◌, ◌<◌, Bool, true, false, not, eqb, leb, List, [], ◌∷◌, ◌++◌, Option, Some, None, map, get_or, set, length, refl, sym, ap, subst, ◌∙◌, arith, inl, inr, ◌≤ℤ◌, ◌<ℤ◌, pos}
+use Rattle.std.proofs.Common.{◌≡◌, ℕ, ◌+◌, ◌*◌, ◌/◌, ◌^◌, ◌≤◌, ◌<◌, Bool, true, false, not, eqb, leb, List, [], ◌∷◌, ◌++◌, Option, Some, None, map, get_or, set, length, refl, sym, ap, subst, ◌∙◌, arith, inl, inr, ◌≤ℤ◌, ◌<ℤ◌, pos, zero, suc, replicate}
 use Rattle.std.specs.Prelude.{int_le, int_lt}
 use Rattle.std.specs.Option.{option_map, is_some, IfSome}
 use Rattle.std.specs.List.{filter, find, list_any, AllByRecursion, IsDistinct}
 use Rattle.std.proofs.lemmas.Bool.{cases_Bool, cases_eq, or_parts, not_from_false, false≢true, eqb-true, eqb-false, eq-eqb, ne_eqb}
 use Rattle.std.proofs.lemmas.Int.{ints}
-use Rattle.std.proofs.lemmas.List.{get_or_default, get_or-set_same, get_or-set_other, length-set, length-map}
+use Rattle.std.proofs.lemmas.List.{get_or_default, get_or-set_same, get_or-set_other, length-set, length-map, length-replicate}
 use Rattle.std.proofs.lemmas.Map.Steps.{length-le_from_distinct_below}
 use Rattle.sched_base.specs.KeyedList.{KeyedItem, KeyedList, KeyedRoots, root_at, with_root, with_entry, without_entry, inserted_into, deleted_from, inserted, is_entry, holds, key_of_entry, first_entry, StandsIn, IsFree, ChangesRoot, IsOnce, blank}
 use Rattle.sched_base.proofs.Inserted.{map-inserted, all-inserted, all-filter, all-weaker, rising-inserted, rising-filter, filter-all, filter-none, all-both, all-map}
@@ -17,7 +17,7 @@ use Rattle.queue_model.proofs.Walk.{walked-inserted, walked-filter, all-walked, 
 use Rattle.queue_model.proofs.WalkItems.{once_walked, find_walked, walked_in, in_walked, first_is}
 use Rattle.queue_model.proofs.SweepSteps.{is_due, ahead, DueFirst, int_le-fails}
 use Rattle.queue_model.specs.Sweep.{due}
-use Rattle.wait_queue.specs.Timers.{Timers, entry_of, wait_item, wait_list, IsTimer, Fits, key_of_task, insertions_of, Inserts, is_none_left}
+use Rattle.wait_queue.specs.Timers.{Timers, IsReady, entry_of, wait_item, wait_list, IsTimer, Fits, key_of_task, insertions_of, Inserts, is_none_left}
 
 -- ---- one root that changes
 
@@ -436,3 +436,20 @@ pub unlink_present : (now i : ℕ) (q : Timers) (s t : KeyedRoots) → Fits q s 
 unlink_present now i q s t f e =
     ap (λ (u : KeyedRoots). wait_list now (unset i q) u) e
     ∙ ap (λ (l : WaitList). let w : WaitList = record { items = l.items; expiries = set q.expiries i 0 } in w) (deletion_takes_out q s f now i)
+
+-- ---- empty lists
+
+pub blank_root : (n r : ℕ) → get_or (replicate n blank) r blank ≡ blank
+blank_root zero r = refl
+blank_root (suc n) zero = refl
+blank_root (suc n) (suc r) = blank_root n r
+
+-- empty lists are ready for a queue
+pub ready_blank : (roots entries root tasks : ℕ) → root < roots → 2 * tasks ≤ entries → entries ≤ 2 ^ 32 → IsReady root tasks (record { roots = replicate roots blank; entries = entries })
+ready_blank roots entries root tasks lt room numbers = record {
+  exists = rw (length-replicate roots blank) lt;
+  empty = ap (λ (l : KeyedList). l.items) (blank_root roots root);
+  room = room;
+  numbers = numbers;
+  free = λ task below other within. ap (holds (entry_of task)) (blank_root roots other);
+}

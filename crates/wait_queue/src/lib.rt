@@ -2,6 +2,8 @@
 //! (docs/TIMERS.md).
 #![tactic(auto)]
 
+#[cfg(test)]
+mod tests;
 mod wait_queue;
 
 pub use wait_queue::WaitQueue;

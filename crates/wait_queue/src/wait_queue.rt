@@ -61,7 +61,7 @@ impl WaitQueue {
     pub fn set_expiry(&mut self, id: TaskId, tick: u32)
         requires { id.0 < length self.old.expiries }
         ensures list { (now : ℕ) (lists : KeyedRoots) → wait_list now self.new lists ≡ with_expiry id.0 tick (wait_list now self.old lists) }
-        ensures root { self.new.root ≡ self.old.root }
+        ensures queue { IsSameQueue self.old self.new }
         ensures fits { (lists : KeyedRoots) → Fits self.old lists → Fits self.new lists }
     {
         self.expiries[id.0 as usize] = tick;
@@ -123,7 +123,7 @@ impl WaitQueue {
         ensures fits { Fits self.new (K.seen lists.new) }
         ensures others { ChangesRoot self.old.root (K.seen lists.old) (K.seen lists.new) }
         ensures insertions { Inserts 0 self.old (K.seen lists.old) (K.seen lists.new) }
-        ensures root { self.new.root ≡ self.old.root }
+        ensures queue { IsSameQueue self.old self.new }
     {
         self.expiries[id.0 as usize] = ETERNITY;
         let entry = 2 * id.0;
