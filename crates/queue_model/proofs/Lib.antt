@@ -1,4 +1,5 @@
 pub mod SweepSteps
 pub mod Walk
 pub mod WalkItems
+pub mod WholeSweep
 mod Worked
