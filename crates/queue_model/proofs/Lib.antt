@@ -2,4 +2,5 @@ pub mod SweepSteps
 pub mod Walk
 pub mod WalkItems
 pub mod WholeSweep
+pub mod Window
 mod Worked

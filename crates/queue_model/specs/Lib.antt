@@ -1,5 +1,7 @@
 pub mod Ticks
 pub mod Walk
+pub mod Window
+pub mod Laws
 pub mod RunList
 pub mod WaitList
 pub mod Sweep
