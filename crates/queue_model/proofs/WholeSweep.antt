@@ -1,15 +1,15 @@
 -- Steps of a sweep until none fires come to the sweep.
-use Rattle.std.proofs.Common.{◌≡◌, ℕ, ◌+◌, ◌≤◌, ◌<◌, Bool, true, false, cond, not, ◌&&◌, eqb, List, [], ◌∷◌, ◌++◌, Option, Some, None, map, drop, set, get_or, length, refl, sym, ap, subst, ◌∙◌, arith, inl, inr, append-nil}
+use Rattle.std.proofs.Common.{◌≡◌, ℕ, Bool, true, false, not, ◌&&◌, eqb, List, [], ◌∷◌, ◌++◌, Some, None, map, drop, set, get_or, refl, sym, ap, subst, ◌∙◌, inl, inr, append-nil}
 use Rattle.std.specs.Prelude.{fold, filter, int_le}
 use Rattle.std.specs.List.{AllByRecursion}
-use Rattle.std.proofs.lemmas.Bool.{cases_Bool, false≢true, eqb-false, not_from_true, not_from_false}
+use Rattle.std.proofs.lemmas.Bool.{cases_Bool, eqb-false, not_from_true, not_from_false}
 use Rattle.std.proofs.lemmas.List.{get_or-set_other, map-append}
 use Rattle.std.proofs.lemmas.List.Elements.{filter-append}
-use Rattle.sched_base.proofs.Inserted.{Answers, inserted-append_right, filter-all, filter-none, all-weaker, all-inserted, all-filter, all-both}
+use Rattle.sched_base.proofs.Inserted.{Answers, inserted-append_right, filter-all, filter-none, all-weaker, all-inserted, all-filter}
 use Rattle.queue_model.specs.Ticks.{distance, is_set, is_expired}
-use Rattle.queue_model.specs.WaitList.{WaitItem, WaitList, expiry_of, with_expiry, placed}
-use Rattle.queue_model.specs.Sweep.{due, fired, put_back, swept}
-use Rattle.queue_model.specs.SweepStep.{before, onward, first_task, first_fired, stepped, Steps, unset_first}
+use Rattle.queue_model.specs.WaitList.{WaitItem, WaitList, with_expiry, placed}
+use Rattle.queue_model.specs.Sweep.{due, fired, swept}
+use Rattle.queue_model.specs.SweepStep.{before, onward, first_task, stepped, Steps, unset_first}
 use Rattle.queue_model.proofs.SweepSteps.{is_due, ahead, due_before}
 
 abbrev pub fires_by : ℕ → List ℕ → WaitItem → Bool
@@ -196,12 +196,13 @@ steps_sweep now es d a (i ∷ is) new due_d ahead_a apart h =
     let back_all : filter (back_by now es) d ≡ filter (set_by es) p ++ filter (back_by now es) ys = ap (filter (back_by now es)) (sym whole) ∙ filter-append (back_by now es) p (y ∷ ys) ∙ rw (back_is_set now es p quiet, stays_out) refl in
     let back_tasks : tasks (filter (back_by now es) d) ≡ ps ++ tasks (filter (back_by now es) ys) = ap tasks back_all ∙ map-append (λ (z : WaitItem). z.task) _ _ in
     let items : fold (place_by now es') a' (tasks (filter (back_by now es') ys)) ≡ fold (place_by now es) a (tasks (filter (back_by now es) d)) =
-      ap (λ (zs : List WaitItem). fold (place_by now es') a' (tasks zs)) same_back
-      ∙ fold_other now es y.task (tasks (filter (back_by now es) ys)) a' (tasks_other y.task (back_by now es) ys behind.0)
-      ∙ sym (ap (fold (place_by now es) a) back_tasks ∙ fold-append (place_by now es) a ps (tasks (filter (back_by now es) ys))) in
-    let expiries : unset_all es' (tasks (filter (fires_by now es') ys)) ≡ unset_all es (tasks (filter f d)) = rw (same_fires, fires_all) refl in
-    (rw fires_all (rw own (ap (λ (js : List ℕ). i ∷ js) (ih.0 ∙ ap tasks same_fires))),
-    ih.1 ∙ rw (items, expiries) refl)
+    ap (λ (zs : List WaitItem). fold (place_by now es') a' (tasks zs)) same_back
+    ∙ fold_other now es y.task (tasks (filter (back_by now es) ys)) a' (tasks_other y.task (back_by now es) ys behind.0)
+    ∙ sym (ap (fold (place_by now es) a) back_tasks ∙ fold-append (place_by now es) a ps (tasks (filter (back_by now es) ys))) in
+    let expiries : unset_all es' (tasks (filter (fires_by now es') ys)) ≡ unset_all es (tasks (filter f d)) = rw (same_fires, fires_all) refl in (
+      rw fires_all (rw own (ap (λ (js : List ℕ). i ∷ js) (ih.0 ∙ ap tasks same_fires))),
+      ih.1 ∙ rw (items, expiries) refl,
+    )
 
 pub unset-fold : (l : WaitList) (is : List ℕ) → (fold (λ (m : WaitList) (i : ℕ). with_expiry i 0 m) l is).expiries ≡ unset_all l.expiries is
 unset-fold l [] = refl

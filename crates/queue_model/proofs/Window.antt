@@ -1,11 +1,11 @@
 -- While all keys are near, walks from different ticks are the same.
-use Rattle.std.proofs.Common.{◌≡◌, ℕ, ◌+◌, ◌-◌, ◌%◌, ◌^◌, ◌≤◌, ◌<◌, Bool, true, false, cond, ◌&&◌, leb, ltb, List, [], ◌∷◌, ◌++◌, refl, sym, ap, ◌∙◌, arith, inl, inr, append-nil, ◌≤ℤ◌, pos, ◌+ℤ◌}
+use Rattle.std.proofs.Common.{◌≡◌, ℕ, ◌+◌, ◌^◌, ◌≤◌, ◌<◌, Bool, true, false, ◌&&◌, leb, ltb, List, [], ◌∷◌, refl, sym, ap, ◌∙◌, arith, inl, inr, append-nil}
 use Rattle.std.specs.Prelude.{int_le}
 use Rattle.std.specs.List.{filter, list_any, AllByRecursion}
 use Rattle.std.proofs.lemmas.Int.{ints}
 use Rattle.std.proofs.lemmas.Bool.{cases_Bool, cases_lt, false≢true, and_from, and_parts, lt-ltb, le-ltb, lt-leb, le-leb, leb-true, ltb-true}
 use Rattle.sched_base.specs.KeyedList.{KeyedItem, inserted, IsRising}
-use Rattle.sched_base.proofs.Inserted.{Answers, filter-all, filter-none, all-weaker, all-both}
+use Rattle.sched_base.proofs.Inserted.{Answers, filter-all, filter-none, all-weaker}
 use Rattle.sched_base.proofs.Once.{In, in_all, all_in, none_held}
 use Rattle.queue_model.specs.Ticks.{distance}
 use Rattle.queue_model.specs.Walk.{half_back, turned, walked, HasTicks}
@@ -55,17 +55,21 @@ pub turned_same : (p q : ℕ) (xs : List KeyedItem) → p ≤ q → ((a b : Keye
 turned_same p q xs le alike =
     elim (cases_Bool (list_any (between p q) xs)) [
       | inl some ↦
-        let w = passing (between p q) xs some in
-        let all : Answers true (between p q) xs = all_in (λ (y : KeyedItem). between p q y ≡ true) xs (λ y h. alike w.0 y w.1 h w.2) in
-        let at : (t : KeyedItem → Bool) (b : Bool) → ((y : KeyedItem) → p ≤ y.key → y.key < q → t y ≡ b) → Answers b t xs = λ t b f. all-weaker (λ (y : KeyedItem). between p q y ≡ true) (λ (y : KeyedItem). t y ≡ b) xs (λ y h. let r = and_parts _ _ h in f y (leb-true _ _ r.0) (ltb-true _ _ r.1)) all in
-        rw (filter-all (λ (y : KeyedItem). leb p y.key) xs (at (λ (y : KeyedItem). leb p y.key) true (λ y l r. le-leb _ _ l)),
-          filter-none (λ (y : KeyedItem). ltb y.key p) xs (at (λ (y : KeyedItem). ltb y.key p) false (λ y l r. le-ltb _ _ l)),
-          filter-none (λ (y : KeyedItem). leb q y.key) xs (at (λ (y : KeyedItem). leb q y.key) false (λ y l r. lt-leb _ _ r)),
-          filter-all (λ (y : KeyedItem). ltb y.key q) xs (at (λ (y : KeyedItem). ltb y.key q) true (λ y l r. lt-ltb _ _ r))) (append-nil xs)
+          let w = passing (between p q) xs some in
+          let all : Answers true (between p q) xs = all_in (λ (y : KeyedItem). between p q y ≡ true) xs (λ y h. alike w.0 y w.1 h w.2) in
+          let at : (t : KeyedItem → Bool) (b : Bool) → ((y : KeyedItem) → p ≤ y.key → y.key < q → t y ≡ b) → Answers b t xs = λ t b f. all-weaker (λ (y : KeyedItem). between p q y ≡ true) (λ (y : KeyedItem). t y ≡ b) xs (λ y h. let r = and_parts _ _ h in f y (leb-true _ _ r.0) (ltb-true _ _ r.1)) all in
+          rw (
+            filter-all (λ (y : KeyedItem). leb p y.key) xs (at (λ (y : KeyedItem). leb p y.key) true (λ y l r. le-leb _ _ l)),
+            filter-none (λ (y : KeyedItem). ltb y.key p) xs (at (λ (y : KeyedItem). ltb y.key p) false (λ y l r. le-ltb _ _ l)),
+            filter-none (λ (y : KeyedItem). leb q y.key) xs (at (λ (y : KeyedItem). leb q y.key) false (λ y l r. lt-leb _ _ r)),
+            filter-all (λ (y : KeyedItem). ltb y.key q) xs (at (λ (y : KeyedItem). ltb y.key q) true (λ y l r. lt-ltb _ _ r)),
+          ) (append-nil xs)
       | inr none ↦
-        let out : Answers false (between p q) xs = none_held (between p q) xs none in
-        rw (filter-agree (λ (y : KeyedItem). leb p y.key) (λ (y : KeyedItem). leb q y.key) xs (all-weaker (λ (y : KeyedItem). between p q y ≡ false) (λ (y : KeyedItem). leb p y.key ≡ leb q y.key) xs (λ y h. far p q y.key le h) out),
-          filter-agree (λ (y : KeyedItem). ltb y.key p) (λ (y : KeyedItem). ltb y.key q) xs (all-weaker (λ (y : KeyedItem). between p q y ≡ false) (λ (y : KeyedItem). ltb y.key p ≡ ltb y.key q) xs (λ y h. near p q y.key le h) out)) refl
+          let out : Answers false (between p q) xs = none_held (between p q) xs none in
+          rw (
+            filter-agree (λ (y : KeyedItem). leb p y.key) (λ (y : KeyedItem). leb q y.key) xs (all-weaker (λ (y : KeyedItem). between p q y ≡ false) (λ (y : KeyedItem). leb p y.key ≡ leb q y.key) xs (λ y h. far p q y.key le h) out),
+            filter-agree (λ (y : KeyedItem). ltb y.key p) (λ (y : KeyedItem). ltb y.key q) xs (all-weaker (λ (y : KeyedItem). between p q y ≡ false) (λ (y : KeyedItem). ltb y.key p ≡ ltb y.key q) xs (λ y h. near p q y.key le h) out),
+          ) refl
     ]
 
 -- how far a walk has gone when it comes to a near key
@@ -83,27 +87,27 @@ one_side p q a b hp hq le ha hb l r pa qa pb qb =
     let qa' = rw (lt-leb q a r) at qa in
     elim (cases_lt b p) [
       | inl lt ↦
-        let pb' = rw (lt-leb p b lt) at pb in
-        let before : b < q = omega arith in
-        let qb' = rw (lt-leb q b before) at qb in
-        absurd (omega (arith, pa'.0, pa'.1, qa'.0, qa'.1, pb'.0, pb'.1, qb'.0, qb'.1))
+          let pb' = rw (lt-leb p b lt) at pb in
+          let before : b < q = omega arith in
+          let qb' = rw (lt-leb q b before) at qb in
+          absurd (omega (arith, pa'.0, pa'.1, qa'.0, qa'.1, pb'.0, pb'.1, qb'.0, qb'.1))
       | inr ge ↦ elim (cases_lt b q) [
         | inl lt ↦ and_from _ _ (le-leb p b ge) (lt-ltb b q lt)
         | inr far' ↦
-          let pb' = rw (le-leb p b ge) at pb in
-          let qb' = rw (le-leb q b far') at qb in
-          absurd (omega (arith, pa'.0, pa'.1, qa'.0, qa'.1, pb'.0, pb'.1, qb'.0, qb'.1))
+            let pb' = rw (le-leb p b ge) at pb in
+            let qb' = rw (le-leb q b far') at qb in
+            absurd (omega (arith, pa'.0, pa'.1, qa'.0, qa'.1, pb'.0, pb'.1, qb'.0, qb'.1))
       ]
     ]
 
 pub window_walks : (now later : ℕ) (xs : List KeyedItem) → now < 2 ^ 32 → later < 2 ^ 32 → HasTicks xs → AreNear now xs → AreNear later xs → half_back now ≤ half_back later → walked now xs ≡ walked later xs
 window_walks now later xs n m ticks near_now near_later le =
     turned_same (half_back now) (half_back later) xs le (λ a b ia ib h.
-      let tick = λ (y : KeyedItem) (i : In y xs). in_all (λ (z : KeyedItem). z.key < 2 ^ 32) y xs ticks i in
-      let one = λ (y : KeyedItem) (i : In y xs). near_gone now y.key n (tick y i) (in_all (λ (z : KeyedItem). IsNear now z.key) y xs near_now i) in
-      let two = λ (y : KeyedItem) (i : In y xs). near_gone later y.key m (tick y i) (in_all (λ (z : KeyedItem). IsNear later z.key) y xs near_later i) in
-      let r = and_parts _ _ h in
-      one_side (half_back now) (half_back later) a.key b.key (omega arith) (omega arith) le (tick a ia) (tick b ib) (leb-true _ _ r.0) (ltb-true _ _ r.1) (one a ia) (two a ia) (one b ib) (two b ib))
+    let tick = λ (y : KeyedItem) (i : In y xs). in_all (λ (z : KeyedItem). z.key < 2 ^ 32) y xs ticks i in
+    let one = λ (y : KeyedItem) (i : In y xs). near_gone now y.key n (tick y i) (in_all (λ (z : KeyedItem). IsNear now z.key) y xs near_now i) in
+    let two = λ (y : KeyedItem) (i : In y xs). near_gone later y.key m (tick y i) (in_all (λ (z : KeyedItem). IsNear later z.key) y xs near_later i) in
+    let r = and_parts _ _ h in
+    one_side (half_back now) (half_back later) a.key b.key (omega arith) (omega arith) le (tick a ia) (tick b ib) (leb-true _ _ r.0) (ltb-true _ _ r.1) (one a ia) (two a ia) (one b ib) (two b ib))
 
 pub walks_stay : (now later : ℕ) (xs : List KeyedItem) → now < 2 ^ 32 → later < 2 ^ 32 → HasTicks xs → AreNear now xs → AreNear later xs → walked now xs ≡ walked later xs
 walks_stay now later xs n m ticks near_now near_later =

@@ -4,6 +4,7 @@
 
 mod gates;
 mod keyed_lists;
+mod laws;
 mod memory_in;
 mod memory_out;
 mod names;
@@ -15,6 +16,7 @@ mod streams;
 
 pub use gates::{Gate, OpenGate};
 pub use keyed_lists::KeyedLists;
+pub use laws::{deletions_keep_keyed, insertions_keep_keyed};
 pub use memory_in::MemSource;
 pub use memory_out::MemSink;
 pub use names::{CallerId, Class, TaskId};

@@ -2,8 +2,10 @@
 //! (docs/TIMERS.md).
 #![tactic(auto)]
 
+mod laws;
 #[cfg(test)]
 mod tests;
 mod wait_queue;
 
+pub use laws::{steps_come_to_the_sweep, wait_lists_stay_in_the_window};
 pub use wait_queue::WaitQueue;
