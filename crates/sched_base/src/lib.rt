@@ -13,6 +13,8 @@ mod reason_set;
 mod standard;
 mod steps;
 mod streams;
+#[cfg(test)]
+mod tests;
 
 pub use gates::{Gate, OpenGate};
 pub use keyed_lists::KeyedLists;
