@@ -1,0 +1,7 @@
+//! The tasks of a worker that wait to run, by arrival and nice, under keys that wrap
+//! (docs/TIMERS.md).
+#![tactic(auto)]
+
+mod run_queue;
+
+pub use run_queue::RunQueue;
