@@ -20,27 +20,15 @@ use Rattle.eb_arena.proofs.Trees.{Has, keys_at, keys_map, bit_rank, tree_rank, f
 use Rattle.eb_arena.proofs.Reading.{list_of_is}
 use Rattle.eb_arena.proofs.Ways.{part_split, leaf_key}
 use Rattle.eb_arena.specs.Shape.{AllKeys}
-use Rattle.eb32_walk.specs.Search.{IsFound, own_key, turn_of}
+use Rattle.eb32_walk.specs.Search.{Fits, Narrow, IsFound, own_key, turn_of}
 use Rattle.eb_arena.proofs.Keyed.{all-append, all_items}
 use Rattle.eb32_walk.proofs.Climbing.{greater}
 use Rattle.eb32_walk.proofs.Down.{target_rank, target_rank_is, not_nothing}
 
--- a part of a root's tree, with only smaller keys before it and only greater ones after it
-pub record Narrow (a : Parts) (root key : ℕ) (target : Target) : Type 0 where
-  pub place : Place
-  pub way : List Step
-  pub tree : Tree
-  pub leads : Leads a root place way
-  pub stands : Stands a target place tree
-  pub split : Split (plug way tree)
-  pub list_is : list_of a root ≡ before way ++ (items tree ++ after way)
-  pub low : AllKeys (λ x. x < key) (before way)
-  pub high : AllKeys (λ x. key < x) (after way)
-
 start_at : (a : Parts) (q key : ℕ) (o : Option Tree) → IsRoot a q o → (link_at a q ≡ targets.Nothing → ⊥) → list_of a q ≡ items_of o → Narrow a q key (link_at a q)
 start_at a q key None h n e = absurd (n h)
 start_at a q key (Some t) h n e =
-    record { place = root_place a q; way = []; tree = t; leads = refl; stands = h.0; split = h.1; list_is = e ∙ sym (append-nil (items t)); low = tt; high = tt }
+    record { place = root_place a q; way = []; tree = t; leads = refl; stands = h.0; split = h.1; list_is = e ∙ sym (append-nil (items t)); low = tt; high = tt; fits = tt; whole = h }
 
 pub narrow_start : (a : Parts) (q key : ℕ) (part : Target) → HasShape a → q < length a.links → part ≡ link_at a q → (part ≡ targets.Nothing → ⊥) → Narrow a q key part
 narrow_start a q key part h f e n =
@@ -91,8 +79,8 @@ pub record Turned (a : Parts) (q key : ℕ) (part next : Target) : Type 0 where
   pub narrow : Narrow a q key next
   pub falls : target_rank a next < target_rank a part
 
-turn_left : (a : Parts) (q key i b : ℕ) (l r : Tree) (place : Place) (w : List Step) → Stands a (targets.Node i) place (fork i (pos b) l r) → Leads a q place w → Split (plug w (fork i (pos b) l r)) → list_of a q ≡ before w ++ (items (fork i (pos b) l r) ++ after w) → AllKeys (λ x. x < key) (before w) → AllKeys (λ x. key < x) (after w) → TurnIs b (element_at a i).key key sides.Left → Turned a q key (targets.Node i) (element_at a i).left
-turn_left a q key i b l r place w s h p g low high t =
+turn_left : (a : Parts) (q key i b : ℕ) (l r : Tree) (place : Place) (w : List Step) → Stands a (targets.Node i) place (fork i (pos b) l r) → Leads a q place w → Split (plug w (fork i (pos b) l r)) → list_of a q ≡ before w ++ (items (fork i (pos b) l r) ++ after w) → AllKeys (λ x. x < key) (before w) → AllKeys (λ x. key < x) (after w) → Fits key w → IsRoot a q (Some (plug w (fork i (pos b) l r))) → TurnIs b (element_at a i).key key sides.Left → Turned a q key (targets.Node i) (element_at a i).left
+turn_left a q key i b l r place w s h p g low high ft wh t =
     let k : Split (fork i (pos b) l r) = part_split w (fork i (pos b) l r) p in
     let d : DividesAt b l r = k.2 in
     let o : (element_at a i).key / 2 ^ b / 2 ≡ d.q = own_above a b i l r (targets.Node i) place d s k in
@@ -109,12 +97,14 @@ turn_left a q key i b l r place w s h p g low high t =
         list_is = g ∙ ap (λ z. before w ++ z) (append_assoc (items l) (items r) (after w));
         low = low;
         high = all-append (λ x. key < x) (items r) (after w) (all_items (λ x. key < x) r m) high;
+        fits = ((d.q, (e, d.right)), ft);
+        whole = wh;
       };
       falls = let x : target_rank a (element_at a i).left ≡ tree_rank l = target_rank_is a _ _ l s.4 in let y : tree_rank l < bit_rank (pos b) = falls_left i (pos b) l r k in let z : bit_rank (element_at a i).bit ≡ bit_rank (pos b) = ap bit_rank s.3 in omega arith;
     }
 
-turn_right : (a : Parts) (q key i b : ℕ) (l r : Tree) (place : Place) (w : List Step) → Stands a (targets.Node i) place (fork i (pos b) l r) → Leads a q place w → Split (plug w (fork i (pos b) l r)) → list_of a q ≡ before w ++ (items (fork i (pos b) l r) ++ after w) → AllKeys (λ x. x < key) (before w) → AllKeys (λ x. key < x) (after w) → TurnIs b (element_at a i).key key sides.Right → Turned a q key (targets.Node i) (element_at a i).right
-turn_right a q key i b l r place w s h p g low high t =
+turn_right : (a : Parts) (q key i b : ℕ) (l r : Tree) (place : Place) (w : List Step) → Stands a (targets.Node i) place (fork i (pos b) l r) → Leads a q place w → Split (plug w (fork i (pos b) l r)) → list_of a q ≡ before w ++ (items (fork i (pos b) l r) ++ after w) → AllKeys (λ x. x < key) (before w) → AllKeys (λ x. key < x) (after w) → Fits key w → IsRoot a q (Some (plug w (fork i (pos b) l r))) → TurnIs b (element_at a i).key key sides.Right → Turned a q key (targets.Node i) (element_at a i).right
+turn_right a q key i b l r place w s h p g low high ft wh t =
     let k : Split (fork i (pos b) l r) = part_split w (fork i (pos b) l r) p in
     let d : DividesAt b l r = k.2 in
     let o : (element_at a i).key / 2 ^ b / 2 ≡ d.q = own_above a b i l r (targets.Node i) place d s k in
@@ -130,34 +120,36 @@ turn_right a q key i b l r place w s h p g low high t =
         split = p;
         list_is = g ∙ (ap (λ z. before w ++ z) (append_assoc (items l) (items r) (after w)) ∙ sym (append_assoc (before w) (items l) (items r ++ after w)));
         low = all-append (λ x. x < key) (before w) (items l) low (all_items (λ x. x < key) l m);
+        fits = ((d.q, (e, d.left)), ft);
+        whole = wh;
         high = high;
       };
       falls = let x : target_rank a (element_at a i).right ≡ tree_rank r = target_rank_is a _ _ r s.5 in let y : tree_rank r < bit_rank (pos b) = falls_right i (pos b) l r k in let z : bit_rank (element_at a i).bit ≡ bit_rank (pos b) = ap bit_rank s.3 in omega arith;
     }
 
-turn_by : (a : Parts) (q key i : ℕ) (side : Side) (place : Place) (w : List Step) (t : Tree) → Stands a (targets.Node i) place t → Leads a q place w → Split (plug w t) → list_of a q ≡ before w ++ (items t ++ after w) → AllKeys (λ x. x < key) (before w) → AllKeys (λ x. key < x) (after w) → turn_of (element_at a i).key (element_at a i).bit key ≡ Some side → Turned a q key (targets.Node i) (child side (element_at a i))
-turn_by a q key i side place w (tip e k) s h p g low high t = let x : targets.Node i ≡ targets.Leaf e = s.0 in cc
-turn_by a q key i side place w (fork j (negsuc n) l r) s h p g low high t =
+turn_by : (a : Parts) (q key i : ℕ) (side : Side) (place : Place) (w : List Step) (t : Tree) → Stands a (targets.Node i) place t → Leads a q place w → Split (plug w t) → list_of a q ≡ before w ++ (items t ++ after w) → AllKeys (λ x. x < key) (before w) → AllKeys (λ x. key < x) (after w) → Fits key w → IsRoot a q (Some (plug w t)) → turn_of (element_at a i).key (element_at a i).bit key ≡ Some side → Turned a q key (targets.Node i) (child side (element_at a i))
+turn_by a q key i side place w (tip e k) s h p g low high ft wh t = let x : targets.Node i ≡ targets.Leaf e = s.0 in cc
+turn_by a q key i side place w (fork j (negsuc n) l r) s h p g low high ft wh t =
     let e : i ≡ j = ap index_of s.0 in
     let b : (element_at a i).bit ≡ negsuc n = ap (λ m. (element_at a m).bit) e ∙ s.3 in
     let x : None ≡ Some side = sym (ap (λ z. turn_of (element_at a i).key z key) b) ∙ t in
     cc
-turn_by a q key i sides.Left place w (fork j (pos b) l r) s h p g low high t =
+turn_by a q key i sides.Left place w (fork j (pos b) l r) s h p g low high ft wh t =
     let e : j ≡ i = sym (ap index_of s.0) in
     let bit : (element_at a i).bit ≡ pos b = ap (λ m. (element_at a m).bit) (sym e) ∙ s.3 in
     let is : TurnIs b (element_at a i).key key sides.Left = turn_is (element_at a i).key b key sides.Left (sym (ap (λ z. turn_of (element_at a i).key z key) bit) ∙ t) in
-    turn_left a q key i b l r place w (subst (λ m. Stands a (targets.Node i) place (fork m (pos b) l r)) e s) h (subst (λ m. Split (plug w (fork m (pos b) l r))) e p) g low high is
-turn_by a q key i sides.Right place w (fork j (pos b) l r) s h p g low high t =
+    turn_left a q key i b l r place w (subst (λ m. Stands a (targets.Node i) place (fork m (pos b) l r)) e s) h (subst (λ m. Split (plug w (fork m (pos b) l r))) e p) g low high ft (subst (λ m. IsRoot a q (Some (plug w (fork m (pos b) l r)))) e wh) is
+turn_by a q key i sides.Right place w (fork j (pos b) l r) s h p g low high ft wh t =
     let e : j ≡ i = sym (ap index_of s.0) in
     let bit : (element_at a i).bit ≡ pos b = ap (λ m. (element_at a m).bit) (sym e) ∙ s.3 in
     let is : TurnIs b (element_at a i).key key sides.Right = turn_is (element_at a i).key b key sides.Right (sym (ap (λ z. turn_of (element_at a i).key z key) bit) ∙ t) in
-    turn_right a q key i b l r place w (subst (λ m. Stands a (targets.Node i) place (fork m (pos b) l r)) e s) h (subst (λ m. Split (plug w (fork m (pos b) l r))) e p) g low high is
+    turn_right a q key i b l r place w (subst (λ m. Stands a (targets.Node i) place (fork m (pos b) l r)) e s) h (subst (λ m. Split (plug w (fork m (pos b) l r))) e p) g low high ft (subst (λ m. IsRoot a q (Some (plug w (fork m (pos b) l r)))) e wh) is
 
 pub narrow_turn : (a : Parts) (q key i : ℕ) (part next : Target) (e : Element) (side : Side) → Narrow a q key part → targets.Node i ≡ part → e ≡ element_at a i → Some side ≡ turn_of e.key e.bit key → next ≡ child side e → Turned a q key part next
 narrow_turn a q key i part next e side n is el t nx =
     let m : Narrow a q key (targets.Node i) = subst (Narrow a q key) (sym is) n in
     let s : turn_of (element_at a i).key (element_at a i).bit key ≡ Some side = ap (λ z. turn_of z.key z.bit key) (sym el) ∙ sym t in
-    let u : Turned a q key (targets.Node i) (child side (element_at a i)) = turn_by a q key i side m.place m.way m.tree m.stands m.leads m.split m.list_is m.low m.high s in
+    let u : Turned a q key (targets.Node i) (child side (element_at a i)) = turn_by a q key i side m.place m.way m.tree m.stands m.leads m.split m.list_is m.low m.high m.fits m.whole s in
     let v : Turned a q key part (child side (element_at a i)) = subst (λ z. Turned a q key z (child side (element_at a i))) is u in
     subst (λ z. Turned a q key part z) (sym (nx ∙ ap (child side) el)) v
 
@@ -212,7 +204,7 @@ lies_apart b q own key t h o n =
       more = λ e. let s : key / 2 ^ b / 2 < own / 2 ^ b / 2 = apart_above b key own q n e in keys_map (λ x. x / 2 ^ b / 2 ≡ q) (λ x. key < x) t (λ x f. below_above b key x (omega arith)) h;
     }
 
-node_lies : (a : Parts) (key i : ℕ) (place : Place) (t : Tree) → Stands a (targets.Node i) place t → Split t → turn_of (element_at a i).key (element_at a i).bit key ≡ None → Lies (element_at a i).key key t
+pub node_lies : (a : Parts) (key i : ℕ) (place : Place) (t : Tree) → Stands a (targets.Node i) place t → Split t → turn_of (element_at a i).key (element_at a i).bit key ≡ None → Lies (element_at a i).key key t
 node_lies a key i place (tip e k) s p t = let x : targets.Node i ≡ targets.Leaf e = s.0 in cc
 node_lies a key i place (fork j (negsuc n) l r) s p t =
     let e : j ≡ i = sym (ap index_of s.0) in
@@ -228,7 +220,7 @@ node_lies a key i place (fork j (pos b) l r) s p t =
     let o : (element_at a i).key / 2 ^ b / 2 ≡ d.q = ap (λ m. (element_at a m).key / 2 ^ b / 2) (sym e) ∙ own_above a b j l r _ place d s p in
     lies_apart b d.q (element_at a i).key key (fork j (pos b) l r) (above_bit b l r d) o (turn_none (element_at a i).key b key (sym (ap (λ z. turn_of (element_at a i).key z key) bit) ∙ t))
 
-leaf_lies : (a : Parts) (key i : ℕ) (place : Place) (t : Tree) → Stands a (targets.Leaf i) place t → Lies (element_at a i).key key t
+pub leaf_lies : (a : Parts) (key i : ℕ) (place : Place) (t : Tree) → Stands a (targets.Leaf i) place t → Lies (element_at a i).key key t
 leaf_lies a key i place (tip e k) s = lies_equal (element_at a i).key key (tip e k) (sym s.3 ∙ ap (λ m. (element_at a m).key) (sym (ap index_of s.0)))
 leaf_lies a key i place (fork j b l r) s = let x : targets.Leaf i ≡ targets.Node j = s.0 in cc
 

@@ -1,13 +1,13 @@
 -- What a descent by key finds (docs/TREES.md, "Look-ups").
-use Rattle.std.specs.Prelude.{◌≡◌, ℕ, ◌/◌, ◌%◌, ◌^◌, ◌<◌, ◌==◌, if◌then◌else◌, ℤ, pos, negsuc, List, ◌++◌, Option, Some, None}
+use Rattle.std.specs.Prelude.{◌+◌, ◌*◌, [], ◌∷◌, ◌≡◌, ℕ, ◌/◌, ◌%◌, ◌^◌, ◌<◌, ◌==◌, if◌then◌else◌, ℤ, pos, negsuc, List, ◌++◌, Option, Some, None}
 use Rattle.eb_arena.specs.declared.links.Side.{Side}
 use Rattle.eb_arena.specs.declared.links.Side.TheVariants as sides
 use Rattle.eb_arena.specs.declared.links.Target.{Target}
 use Rattle.eb_arena.specs.declared.links.Place.{Place}
 use Rattle.eb_arena.specs.Links.{index_of}
 use Rattle.eb_arena.specs.Parts.{Parts, element_at}
-use Rattle.eb_arena.specs.Shape.{Tree, items, Keys, AllKeys, Stands, Split, list_of}
-use Rattle.eb_arena.specs.Way.{Step, plug, before, after, Leads}
+use Rattle.eb_arena.specs.Shape.{Tree, items, Keys, AllKeys, Stands, Split, IsRoot, list_of}
+use Rattle.eb_arena.specs.Way.{Step, from_left, from_right, plug, before, after, Leads}
 
 -- the key of the entry whose leaf or node is the target
 abbrev pub own_key : Parts → Target → ℕ
@@ -33,3 +33,25 @@ pub record IsFound (a : Parts) (root key : ℕ) (target : Target) : Type 0 where
   pub same : own_key a target ≡ key → Keys (λ x. x ≡ key) tree
   pub less : own_key a target < key → Keys (λ x. x < key) tree
   pub more : key < own_key a target → Keys (λ x. key < x) tree
+
+-- the key agrees with each step of a way, and the steps are at bits of the keys
+abbrev pub Fits : ℕ → List Step → Type 0
+Fits key [] = Unit {0}
+Fits key (from_left i (pos b) r ∷ w) = ((m : ℕ) × ((key / 2 ^ b ≡ 2 * m) × Keys (λ x. x / 2 ^ b ≡ 2 * m + 1) r)) × Fits key w
+Fits key (from_left i (negsuc n) r ∷ w) = ⊥
+Fits key (from_right i (pos b) l ∷ w) = ((m : ℕ) × ((key / 2 ^ b ≡ 2 * m + 1) × Keys (λ x. x / 2 ^ b ≡ 2 * m) l)) × Fits key w
+Fits key (from_right i (negsuc n) l ∷ w) = ⊥
+
+-- a part of a root's tree, with only smaller keys before it and only greater ones after it
+pub record Narrow (a : Parts) (root key : ℕ) (target : Target) : Type 0 where
+  pub place : Place
+  pub way : List Step
+  pub tree : Tree
+  pub leads : Leads a root place way
+  pub stands : Stands a target place tree
+  pub split : Split (plug way tree)
+  pub list_is : list_of a root ≡ before way ++ (items tree ++ after way)
+  pub low : AllKeys (λ x. x < key) (before way)
+  pub high : AllKeys (λ x. key < x) (after way)
+  pub fits : Fits key way
+  pub whole : IsRoot a root (Some (plug way tree))

@@ -10,7 +10,7 @@ use eb_arena::{Arena, Element, Link, Side, Target};
 
 /// The side of a node to which the key belongs; none where it differs from the node's keys above
 /// the node's bit, or where the node's keys are equal.
-fn turn(node: &Element, key: u32) -> Option<Side>
+pub fn turn(node: &Element, key: u32) -> Option<Side>
     requires { IsBit node.now.bit }
     ensures { result ≡ turn_of node.now.key node.now.bit key }
 {

@@ -119,7 +119,7 @@ pub nothing_stands : (a : Parts) (place : Place) (t : Tree) → Stands a targets
 nothing_stands a place (tip e k) s = let x : targets.Nothing ≡ targets.Leaf e = s.0 in cc
 nothing_stands a place (fork j b l r) s = let x : targets.Nothing ≡ targets.Node j = s.0 in cc
 
-same_option : (a : Parts) (q : ℕ) (o p : Option Tree) → IsRoot a q o → IsRoot a q p → o ≡ p
+pub same_option : (a : Parts) (q : ℕ) (o p : Option Tree) → IsRoot a q o → IsRoot a q p → o ≡ p
 same_option a q None None h g = refl
 same_option a q None (Some u) h g = absurd (nothing_stands a (root_place a q) u (subst (λ x. Stands a x (root_place a q) u) h g.0))
 same_option a q (Some t) None h g = absurd (nothing_stands a (root_place a q) t (subst (λ x. Stands a x (root_place a q) t) g h.0))

@@ -92,7 +92,7 @@ pub record Spot (a : Parts) (head slot : Target) (i : ℕ) : Type 0 where
   pub slot_down : depth_of a (element_at a i).right < n → Walk a head (element_at a i).right (element_at a i).right
   pub slot_stays : (depth_of a (element_at a i).right < n → ⊥) → Walk a head slot (element_at a i).right
 
-index_fits : (a : Parts) (target : Target) (place : Place) (t : Tree) → Stands a target place t → index_of target < length a.elements
+pub index_fits : (a : Parts) (target : Target) (place : Place) (t : Tree) → Stands a target place t → index_of target < length a.elements
 index_fits a target place (tip e k) s = subst (λ n. n < length a.elements) (sym (ap index_of s.0)) s.1
 index_fits a target place (fork i b l r) s = subst (λ n. n < length a.elements) (sym (ap index_of s.0)) s.1
 

@@ -296,10 +296,10 @@ plug_nodes [] s g x f h = f x h
 plug_nodes (from_left i b r ∷ w) s g x f h = plug_nodes w (fork i b s r) (fork i b g r) x (λ y k. elim k [ inl k ↦ inl k | inr k ↦ elim k [ inl k ↦ inr (inl (f y k)) | inr k ↦ inr (inr k) ] ]) h
 plug_nodes (from_right i b l ∷ w) s g x f h = plug_nodes w (fork i b l s) (fork i b l g) x (λ y k. elim k [ inl k ↦ inl k | inr k ↦ elim k [ inl k ↦ inr (inl k) | inr k ↦ inr (inr (f y k)) ] ]) h
 
-tree_at : (ts : ℕ → Option Tree) (q : ℕ) (o : Option Tree) → with_tree ts q o q ≡ o
+pub tree_at : (ts : ℕ → Option Tree) (q : ℕ) (o : Option Tree) → with_tree ts q o q ≡ o
 tree_at ts q o = ap (λ b. if b then o else ts q) (eq-eqb q q refl)
 
-tree_other : (ts : ℕ → Option Tree) (q r : ℕ) (o : Option Tree) → (r ≡ q → ⊥) → with_tree ts q o r ≡ ts r
+pub tree_other : (ts : ℕ → Option Tree) (q r : ℕ) (o : Option Tree) → (r ≡ q → ⊥) → with_tree ts q o r ≡ ts r
 tree_other ts q r o n = ap (λ b. if b then o else ts r) (ne_eqb r q n)
 
 root_same : (a z : Parts) (r q : ℕ) (o : Option Tree) (t : Tree) (e : ℕ) → length z.elements ≡ length a.elements → link_at z r ≡ link_at a r → IsRoot a r o → (r ≡ q → ⊥) → Stands a (link_at a q) (root_place a q) t → Split t → (element_at a e).leaf_p ≡ places.Nowhere → ((u : Tree) (g : Target) (p : Place) → Stands a g p u → Fresh e u → NoShare t u → SameOn a z u) → IsRoot z r o

@@ -1,5 +1,5 @@
 use Rattle.eb32_walk.proofs.Down.{target_rank}
-use Rattle.eb32_walk.proofs.Seeking.{Narrow}
+use Rattle.eb32_walk.specs.Search.{Narrow}
 use Rattle.eb32_walk.proofs.search.seek.Given as goal
 
 abbrev pub invariant-loop-index : goal.invariant-loop-index

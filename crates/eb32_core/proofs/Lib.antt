@@ -1,0 +1,4 @@
+pub mod Landings
+pub mod Plants
+pub mod First
+pub mod Placing
