@@ -89,7 +89,7 @@ may_come p (shapes.row line) = not (all_rows p)
 may_come p (shapes.event line) = all_rows p
 may_come p shapes.ends = all_rows p
 
--- the least and the most that a setting may be
+-- the least that a setting may be
 abbrev pub least : Setting → ℕ
 least Workers = 1
 least Depth = 1
@@ -97,6 +97,7 @@ least Start = 0
 least Step = 1
 least Rounds = 1
 
+-- the most that a setting may be
 abbrev pub most : Setting → ℕ
 most Workers = 16
 most Depth = 1000
@@ -116,12 +117,13 @@ place_outside workers (shapes.pinned home nice) = nat_le workers (value home) ||
 place_outside workers (shapes.shared nice) = outside_nice (signed_value nice)
 place_outside workers (shapes.tasklet home class) = nat_le workers (value home)
 
--- the same of an expiry
+-- whether the word of an expiry writes no number
 unfoldable pub delay_no_number : Delay → Bool
 delay_no_number shapes.keeps = false
 delay_no_number (shapes.after w) = no_number w
 delay_no_number shapes.never = false
 
+-- whether the number of an expiry is out of its range
 unfoldable pub delay_outside : Delay → Bool
 delay_outside shapes.keeps = false
 delay_outside (shapes.after w) = outside 1 1073741824 (value w)
@@ -158,10 +160,11 @@ abbrev pub first_fault : List (ℕ × Bool) → Option ℕ
 first_fault [] = None
 first_fault (test ∷ tests) = if test.1 then Some test.0 else first_fault tests
 
--- the kinds of fault that a line may have beside the test of each, the lowest first
+-- the kinds of fault that a setting's line may have, each beside its test and the lowest first: a word that is no number; a number out of its range
 abbrev pub setting_tests : Setting → Word → List (ℕ × Bool)
 setting_tests setting w = (3, no_number w) ∷ (8, outside (least setting) (most setting) (value w)) ∷ []
 
+-- those of a task line: a word that is no number; a name that another task has; a number out of its range or one task too many
 abbrev pub task_tests : Progress → TaskLine → List (ℕ × Bool)
 task_tests p line =
     (3, place_no_number line.place || no_number line.rows)
@@ -169,6 +172,7 @@ task_tests p line =
     ∷ (8, place_outside p.workers line.place || (outside 1 64 (value line.rows) || nat_le 4096 (length p.tasks)))
     ∷ []
 
+-- those of a row line: a word that is no number; an unknown name; not the next row or no row to go to; an expiry that is barred; too many actions or ticks out of their range
 abbrev pub row_tests : Progress → RowLine → List (ℕ × Bool)
 row_tests p line =
     (3, no_number line.number || (delay_no_number line.delay || no_number line.next))
@@ -178,6 +182,7 @@ row_tests p line =
     ∷ (8, nat_lt 16 (length line.orders) || delay_outside line.delay)
     ∷ []
 
+-- those of an event line: a word that is no number; an unknown name; a round out of its range, one event too many, or a round that falls
 abbrev pub event_tests : Progress → EventLine → List (ℕ × Bool)
 event_tests p line =
     (3, no_number line.round)
@@ -185,6 +190,7 @@ event_tests p line =
     ∷ (8, nat_le p.rounds (value line.round) || (nat_le 65536 (length p.events) || nat_lt (value line.round) (last_round p.events)))
     ∷ []
 
+-- those of a line by what it says; the line `end` has none
 abbrev pub tests : Progress → Said → List (ℕ × Bool)
 tests p (shapes.sets setting w) = setting_tests setting w
 tests p (shapes.task line) = task_tests p line
@@ -192,12 +198,13 @@ tests p (shapes.row line) = row_tests p line
 tests p (shapes.event line) = event_tests p line
 tests p shapes.ends = []
 
--- the parts of the tables that a line adds
+-- the kind of task that a place says
 unfoldable pub kind_of : Place → Kind
 kind_of (shapes.pinned home nice) = Pinned (value home) (signed_value nice)
 kind_of (shapes.shared nice) = Shared (signed_value nice)
 kind_of (shapes.tasklet home class) = Tasklet (value home) class
 
+-- the task that a line says, with no row so far
 unfoldable pub task_of : TaskLine → TaskDef
 task_of line = record { name = line.name; kind = kind_of line.place; init = line.init; rows = [] }
 
@@ -209,23 +216,26 @@ number_named tasks name = unwrap_or (named tasks name) 0
 unfoldable pub reasons_named : Word → ℕ
 reasons_named list = unwrap_or (reasons_of list) 0
 
--- the parts of the tables that an action, an expiry, a row and an event make
+-- the action that a line says
 unfoldable pub action_of : List TaskDef → Order → Action
 action_of tasks (shapes.wakes name list) = Wake (record { 0 = number_named tasks name }) (reasons_named list)
 action_of tasks (shapes.kills name) = Kill (record { 0 = number_named tasks name })
 
+-- the expiry that a line says
 unfoldable pub expiry_of : Delay → Expiry
 expiry_of shapes.keeps = Keep
 expiry_of (shapes.after w) = After (value w)
 expiry_of shapes.never = Never
 
+-- the row that a line says
 unfoldable pub row_of : List TaskDef → RowLine → Row
 row_of tasks line = record { actions = map (action_of tasks) line.orders; expiry = expiry_of line.delay; next = value line.next }
 
+-- the event that a line says
 unfoldable pub event_of : List TaskDef → EventLine → Event
 event_of tasks line = record { round = value line.round; action = action_of tasks line.order }
 
--- what is read so far, with one line more
+-- the setting has this value
 unfoldable pub with_setting : Progress → Setting → ℕ → Progress
 with_setting p Workers n = record p { workers = n }
 with_setting p Depth n = record p { depth = n }
@@ -233,6 +243,7 @@ with_setting p Start n = record p { start = n }
 with_setting p Step n = record p { step = n }
 with_setting p Rounds n = record p { rounds = n }
 
+-- the task comes last, with the number of rows that it promised
 unfoldable pub with_task : Progress → TaskLine → Progress
 with_task p line = record p { tasks = p.tasks ++ task_of line ∷ []; counts = p.counts ++ value line.rows ∷ [] }
 
@@ -248,9 +259,11 @@ with_row p (Some task) row = record p {
   at = if length task.rows + 1 == promised p then p.at + 1 else p.at;
 }
 
+-- the event comes last
 unfoldable pub with_event : Progress → EventLine → Progress
 with_event p line = record p { events = p.events ++ event_of p.tasks line ∷ [] }
 
+-- what is read so far, with what one line says
 unfoldable pub with_line : Progress → Said → Progress
 with_line p (shapes.sets setting w) = with_setting p setting (value w)
 with_line p (shapes.task line) = with_task p line
@@ -300,6 +313,7 @@ abbrev pub is_line : Option ℕ → ℕ → Bool
 is_line None n = false
 is_line (Some long) n = long == n
 
+-- a fault, by its line and its kind
 abbrev pub fault : ℕ → ℕ → ScriptFault
 fault line kind = record { line = line; kind = kind }
 

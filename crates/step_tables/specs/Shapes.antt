@@ -22,12 +22,14 @@ pub data Place : Type 0 where
   shared : Word → Place
   tasklet : Word → Class → Place
 
+-- the line of a task or a tasklet
 pub record TaskLine : Type 0 where
   pub name : Word
   pub place : Place
   pub rows : Word
   pub init : Bool
 
+-- the line of a row
 pub record RowLine : Type 0 where
   pub name : Word
   pub number : Word
@@ -35,6 +37,7 @@ pub record RowLine : Type 0 where
   pub delay : Delay
   pub next : Word
 
+-- the line of an event
 pub record EventLine : Type 0 where
   pub round : Word
   pub order : Order
@@ -212,31 +215,35 @@ setting_line setting ws = do
   value ← word_past (setting_name setting) ws
   at_end value.1 (sets setting value.0)
 
--- a line that says a task, a tasklet, a row, an event, or the end
+-- a line that says a task
 unfoldable pub task_said : List Word → Option Said
 task_said ws = do
   rest ← past (codes "task") ws
   line ← task_line rest
   Some (task line)
 
+-- a line that says a tasklet
 unfoldable pub tasklet_said : List Word → Option Said
 tasklet_said ws = do
   rest ← past (codes "tasklet") ws
   line ← tasklet_line rest
   Some (task line)
 
+-- a line that says a row
 unfoldable pub row_said : List Word → Option Said
 row_said ws = do
   rest ← past (codes "row") ws
   line ← row_line rest
   Some (row line)
 
+-- a line that says an event
 unfoldable pub event_said : List Word → Option Said
 event_said ws = do
   rest ← past (codes "event") ws
   line ← event_line rest
   Some (event line)
 
+-- the line that says the end
 unfoldable pub end_said : List Word → Option Said
 end_said ws = do
   rest ← past (codes "end") ws

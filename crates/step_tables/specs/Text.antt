@@ -18,25 +18,30 @@ use Rattle.step_tables.specs.declared.shapes.Setting.TheVariants.{Workers, Depth
 use Rattle.step_tables.specs.Words.{Word, reason_names}
 use Rattle.step_tables.specs.Shapes.{Order, wakes, kills, Delay, keeps, after, never, Place, pinned, shared, tasklet, Said, sets, task, row, event, ends, setting_name}
 
+-- the name of a class
 abbrev pub class_name : Class → Word
 class_name Urgent = codes "urgent"
 class_name Normal = codes "normal"
 class_name Bulk = codes "bulk"
 class_name Heavy = codes "heavy"
 
+-- the words of an action
 abbrev pub order_words : Order → List Word
 order_words (wakes name list) = codes "wake" ∷ name ∷ list ∷ []
 order_words (kills name) = codes "kill" ∷ name ∷ []
 
+-- the words of an expiry, or none
 abbrev pub delay_words : Delay → List Word
 delay_words keeps = []
 delay_words (after ticks) = codes "after" ∷ ticks ∷ []
 delay_words never = codes "never" ∷ []
 
+-- `init`, or nothing
 abbrev pub init_words : Bool → List Word
 init_words true = codes "init" ∷ []
 init_words false = []
 
+-- the words of the place where a task runs
 abbrev pub place_words : Place → List Word
 place_words (pinned home nice) = codes "home" ∷ home ∷ codes "nice" ∷ nice ∷ []
 place_words (shared nice) = codes "shared" ∷ codes "nice" ∷ nice ∷ []
@@ -48,6 +53,7 @@ task_word (pinned home nice) = codes "task"
 task_word (shared nice) = codes "task"
 task_word (tasklet home class) = codes "tasklet"
 
+-- the words of a line
 abbrev pub said_words : Said → List Word
 said_words (sets setting value) = setting_name setting ∷ value ∷ []
 said_words (task line) = task_word line.place ∷ line.name ∷ (place_words line.place ++ codes "rows" ∷ line.rows ∷ init_words line.init)
@@ -68,15 +74,18 @@ reasons_text bits = join_with_byte 44 (reasons_in reason_names bits)
 abbrev pub name_at : List Word → ℕ → Word
 name_at names i = slice_index_or names i []
 
+-- what is said of an action
 unfoldable pub order_said : List Word → Action → Order
 order_said names (Wake i reasons) = wakes (name_at names i.0) (reasons_text reasons)
 order_said names (Kill i) = kills (name_at names i.0)
 
+-- what is said of an expiry
 unfoldable pub delay_said : Expiry → Delay
 delay_said Keep = keeps
 delay_said (After ticks) = after (decimal ticks)
 delay_said Never = never
 
+-- what is said of a kind of task
 unfoldable pub place_said : Kind → Place
 place_said (Pinned home nice) = pinned (decimal home) (signed_decimal nice)
 place_said (Shared nice) = shared (signed_decimal nice)
@@ -95,6 +104,7 @@ unfoldable pub rows_said : List Word → Word → ℕ → List Row → List Said
 rows_said names name number [] = []
 rows_said names name number (r ∷ rs) = row_said names name number r ∷ rows_said names name (number + 1) rs
 
+-- the line of an event
 unfoldable pub event_said : List Word → Event → Said
 event_said names e = event (record { round = decimal e.round; order = order_said names e.action })
 

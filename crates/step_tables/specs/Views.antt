@@ -1,4 +1,4 @@
--- What the reader holds, as words, shapes and scripts: it keeps parts of the text where they lie.
+-- What the reader holds, as words, shapes and scripts (docs/SCRIPT.md, "Lines"): it keeps parts of the text where they lie.
 use Rattle.std.specs.Prelude.{◌≡◌, ℕ, List, [], map, Option, Some, None, Result, Ok, Err}
 use Rattle.std.specs.Borrow.{Bor}
 use Rattle.step_tables.specs.Words.{Word, pieces}
@@ -36,39 +36,48 @@ words_in words = pieces_left 32 words.rest
 abbrev pub word_and_rest : Bor (List ℕ) × Words → Word × List Word
 word_and_rest found = (found.0.now, words_in found.1)
 
--- the shapes that the reader finds
+-- the place of a task
 abbrev pub place_view : CodePlace → Place
 place_view (places.Pinned home nice) = pinned home.now nice.now
 place_view (places.Shared nice) = shared nice.now
 place_view (places.Tasklet home class) = tasklet home.now class
 
+-- a place, and the words after it
 abbrev pub place_and_rest : CodePlace × Words → Place × List Word
 place_and_rest found = (place_view found.0, words_in found.1)
 
+-- an expiry
 abbrev pub delay_view : CodeDelay → Delay
 delay_view delays.Keeps = keeps
 delay_view (delays.After w) = after w.now
 delay_view delays.Never = never
 
+-- an action
 abbrev pub order_view : CodeOrder → Order
 order_view (orders.Wakes name list) = wakes name.now list.now
 order_view (orders.Kills name) = kills name.now
 
+-- an action, and the words after it
 abbrev pub order_and_rest : CodeOrder × Words → Order × List Word
 order_and_rest found = (order_view found.0, words_in found.1)
 
+-- a task line
 abbrev pub task_view : CodeTaskLine → TaskLine
 task_view line = record { name = line.name.now; place = place_view line.place; rows = line.rows.now; init = line.init }
 
+-- an expiry, and the words after it
 abbrev pub delay_and_rest : CodeDelay × Words → Delay × List Word
 delay_and_rest found = (delay_view found.0, words_in found.1)
 
+-- a row line
 abbrev pub row_view : CodeRowLine → RowLine
 row_view line = record { name = line.name.now; number = line.number.now; orders = map order_view line.orders.items; delay = delay_view line.delay; next = line.next.now }
 
+-- an event line
 abbrev pub event_view : CodeEventLine → EventLine
 event_view line = record { round = line.round.now; order = order_view line.order }
 
+-- what a line says
 abbrev pub said_view : CodeSaid → Said
 said_view (saids.Sets setting w) = sets setting w.now
 said_view (saids.Task line) = task (task_view line)

@@ -63,6 +63,22 @@ const FAULTS: [(&str, u32, u8); 12] = [
     ),
 ];
 
+/// Whole texts, with the line and the kind of the fault.
+const NO_SCRIPTS: [(&str, u32, u8); 4] = [
+    ("", 1, 9),
+    ("taskscript 9\nworkers 1\n", 1, 1),
+    ("taskscript 1\nworkers 01\ndepth x\n", 2, 3),
+    ("taskscript 1\nworkers 17\n", 2, 8),
+];
+
+/// Whether the text has this fault.
+fn has_fault(rt: &HostRuntime, text: &str, line: u32, kind: u8) -> bool {
+    match Script::read(rt.alloc(), text.as_bytes()) {
+        Ok(_) => false,
+        Err(fault) => fault == ScriptError::Refused(ScriptFault { line, kind }),
+    }
+}
+
 #[test]
 fn reads_and_writes_scripts_and_names_first_faults(rt: HostRuntime) -> Result<(), Fail> {
     for (text, tasks, events) in SCRIPTS {
@@ -76,16 +92,10 @@ fn reads_and_writes_scripts_and_names_first_faults(rt: HostRuntime) -> Result<()
     for (end, line, kind) in FAULTS {
         let head = "taskscript 1\nworkers 1\ndepth 200\nstart 0\nstep 4\nrounds 10\n";
         let text = format!(in rt.alloc(); "{head}{end}")?;
-        match Script::read(rt.alloc(), text.as_bytes()) {
-            Ok(_) => panic!(rt; "{text}"),
-            Err(fault) => {
-                assert_eq!(rt;
-                    fault,
-                    ScriptError::Refused(ScriptFault { line, kind }),
-                    "{text}"
-                );
-            }
-        }
+        assert!(rt; has_fault(&rt, text.as_str(), line, kind), "{text}");
+    }
+    for (text, line, kind) in NO_SCRIPTS {
+        assert!(rt; has_fault(&rt, text, line, kind), "{text}");
     }
     Ok(())
 }
