@@ -1,14 +1,15 @@
 -- What insertions and deletions in the lists mean for the run list.
-use Rattle.std.proofs.Common.{◌≡◌, ℕ, ◌+◌, ◌-◌, ◌/◌, ◌%◌, ◌^◌, ◌≤◌, ◌<◌, Bool, true, false, not, eqb, leb, List, [], ◌∷◌, Some, map, drop, length, refl, sym, ap, subst, ◌∙◌, arith, inl, inr, ◌≤ℤ◌, pos, negsuc, ◌+ℤ◌, ◌*ℤ◌}
+use Rattle.std.proofs.Common.{◌≡◌, ℕ, ◌+◌, ◌-◌, ◌/◌, ◌%◌, ◌^◌, ◌≤◌, ◌<◌, Bool, true, false, not, eqb, leb, List, [], ◌∷◌, Option, Some, map, drop, length, refl, sym, ap, subst, ◌∙◌, arith, inl, inr, ◌≤ℤ◌, pos, negsuc, ◌+ℤ◌, ◌*ℤ◌}
 use Rattle.std.specs.Prelude.{ℤ, int_le}
 use Rattle.std.specs.List.{filter, list_any, AllByRecursion, IsDistinct}
+use Rattle.std.specs.Option.{is_some}
 use Rattle.std.proofs.lemmas.Int.{ints}
 use Rattle.std.proofs.lemmas.Bool.{cases_Bool, cases_eq, false≢true, or_parts, eqb-true, eqb-false, eq-eqb, ne_eqb, not_from_false}
 use Rattle.std.proofs.lemmas.List.{get_or-set_same, get_or-set_other, length-set, length-map}
 use Rattle.std.proofs.lemmas.Map.Steps.{length-le_from_distinct_below}
 use Rattle.sched_base.specs.KeyedList.{KeyedItem, KeyedList, KeyedRoots, root_at, with_root, with_entry, without_entry, inserted_into, deleted_from, inserted, is_entry, holds, first_entry, StandsIn, IsFree, ChangesRoot, IsOnce, blank}
 use Rattle.sched_base.proofs.Inserted.{map-inserted, all-inserted, all-filter, all-weaker, all-both, rising-inserted, rising-filter, filter-all}
-use Rattle.sched_base.proofs.Once.{In, in_all, all_in, in_held, item_of_held, once-inserted, once-filter, none_held}
+use Rattle.sched_base.proofs.Once.{In, in_all, all_in, in_held, item_of_held, once-inserted, once-filter, none_held, held_none}
 use Rattle.queue_model.specs.Ticks.{distance}
 use Rattle.queue_model.specs.RunList.{RunItem, RunList, arrived, without_least, is_listed}
 use Rattle.queue_model.specs.Walk.{walked, HasTicks, IsByDistance, half_back}
@@ -250,3 +251,26 @@ module _ (q : Runners) (s : KeyedRoots) (f : Fits q s) (entry : ℕ) (h : Some e
           waiting = rw order_out (omega arith);
           apart = λ other task within ne. ap (holds (entry_of task)) (changes_out.others other ne) ∙ f.apart other task (rw long at within) ne;
         }
+
+-- ---- tasks that the lists do not hold
+
+pub never_listed : (count i : ℕ) (xs : List KeyedItem) (entries : ℕ) → AllByRecursion (IsRunner entries) xs → list_any (is_entry (entry_of i)) xs ≡ false → list_any (λ (z : RunItem). eqb z.task i) (map (run_item count) xs) ≡ false
+never_listed count i [] entries all h = refl
+never_listed count i (x ∷ xs) entries all h =
+    let r = or_parts (is_entry (entry_of i) x) (list_any (is_entry (entry_of i)) xs) h in
+    let odd : x.entry ≡ entry_of (x.entry / 2) = all.0.entry in
+    rw (ne_eqb (x.entry / 2) i (λ e. eqb-false x.entry (entry_of i) r.0 (omega arith))) (never_listed count i xs entries all.1 r.1)
+
+-- a task whose entry no root holds is not listed
+pub not_listed : (i : ℕ) (q : Runners) (s : KeyedRoots) → Fits q s → IsFree (entry_of i) s → is_listed i (run_list q s) ≡ false
+not_listed i q s f free =
+    let none : AllByRecursion (λ (y : KeyedItem). is_entry (entry_of i) y ≡ false) (in_order q s) = all-walked (λ (y : KeyedItem). is_entry (entry_of i) y ≡ false) (now_of q.count) (root_at q.root s).items (none_held (is_entry (entry_of i)) (root_at q.root s).items (free q.root f.exists)) in
+    never_listed q.count i (in_order q s) s.entries (all-walked (IsRunner s.entries) (now_of q.count) (root_at q.root s).items f.runners) (held_none (is_entry (entry_of i)) (in_order q s) none)
+
+-- where no root was named for an entry, it is free
+pub free_from_none : (entry : ℕ) (s : KeyedRoots) (r : Option ℕ) → false ≡ is_some r → ((root : ℕ) → StandsIn root entry s → r ≡ Some root) → IsFree entry s
+free_from_none entry s r none one = λ root within.
+    elim (cases_Bool (holds entry (root_at root s))) [
+      | inl k ↦ absurd (false≢true (none ∙ ap is_some (one root (record { exists = within; held = k }))))
+      | inr k ↦ k
+    ]

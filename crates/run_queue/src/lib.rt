@@ -3,5 +3,7 @@
 #![tactic(auto)]
 
 mod run_queue;
+#[cfg(test)]
+mod tests;
 
 pub use run_queue::RunQueue;
