@@ -74,6 +74,8 @@ first_planted a q e fq fe em fr ts sh =
     let is_in : InSome z us (HasLeaf e) = (q, (subst (λ m. q < m) (sym cl) fq, subst (λ y. IsSomeAnd y (HasLeaf e)) (sym (tree_at ts q (Some t))) refl)) in
     record {
       after = t;
+      elements = c;
+      roots = cl;
       shape = record {
         fits = let x : length a.links + length a.elements < 2147483647 = sh.fits in omega (arith, x, c, cl);
         roots = λ r f. elim (cases_eq r q) [

@@ -2,3 +2,4 @@ pub mod Landings
 pub mod Plants
 pub mod First
 pub mod Placing
+pub mod Groves

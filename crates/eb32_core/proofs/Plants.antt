@@ -20,7 +20,7 @@ use Rattle.eb32_walk.specs.Search.{Narrow, Fits, own_key}
 use Rattle.eb_dups.specs.Grown.{grown, attached, with_tree}
 use Rattle.eb_dups.specs.Spine.{IsTwins, IsWhole, spine_value, KeyHead, TwinAdded}
 use Rattle.eb_dups.specs.Added.{AddsTwin}
-use Rattle.eb_dups.proofs.Regrown.{Growth, grown_shape, own_leaf, grown_leaf}
+use Rattle.eb_dups.proofs.Regrown.{Growth, Outcome, outcome, grown_shape, own_leaf, grown_leaf}
 use Rattle.eb_dups.proofs.Ending.{up_of_is}
 use Rattle.eb32_core.specs.Landing.{IsTopBit, IsLanding, SideIs}
 use Rattle.eb32_core.specs.Planted.{Spines, SpinesIn, IsRoomy, Planted, Plants}
@@ -131,6 +131,8 @@ twin_planted a z q part e l f o h ts sh =
     let new : items (plug n.way r.after) ≡ (bs ++ items n.tree) ++ item ∷ zs = items-plug n.way r.after ∙ (ap (λ x. bs ++ (x ++ zs)) r.items_are ∙ (ap (λ x. bs ++ x) (append_assoc (items n.tree) (item ∷ []) zs) ∙ sym (append_assoc bs (items n.tree) (item ∷ zs)))) in
     record {
       after = plug n.way r.after;
+      elements = r.elements;
+      roots = r.roots;
       shape = r.shape;
       items_are = new ∙ (sym (inserted_at (bs ++ items n.tree) zs e key (all-append (λ x. x ≤ key) bs (items n.tree) low mid) n.high) ∙ ap (inserted (λ y. nat_le y.key key) item) (sym old));
       spines = λ m s.
@@ -200,8 +202,11 @@ branch_planted a q part e b side l f fe free top sd ts sh =
     let u : up_of a part ≡ n.place = up_of_is a part n.place n.tree n.stands in
     let old : items_of (ts q) ≡ before n.way ++ (items n.tree ++ after n.way) = ap items_of is ∙ items-plug n.way n.tree in
     let item : KeyedItem = record { key = key; entry = e } in
+    let out : Outcome a (attached a part n.place e side (pos b)) q n.way part n.place n.tree e side (pos b) = outcome a ts q n.way part n.place n.tree e side (pos b) g in
     record {
       after = plug n.way new;
+      elements = ap (λ o. length (attached a part o e side (pos b)).elements) u ∙ out.grew.count;
+      roots = ap (λ o. length (attached a part o e side (pos b)).links) u ∙ out.grew.roots;
       shape = subst (λ o. Shape (attached a part o e side (pos b)) (with_tree ts q (Some (plug n.way new)))) (sym u) s;
       items_are = items-plug n.way new ∙ (branch_items own key b e side n.tree (before n.way) (after n.way) sd n.low n.high l.less l.more ∙ ap (inserted (λ y. nat_le y.key key) item) (sym old));
       spines = λ m x. spines_up key m n.way n.tree new n.fits (subst (SpinesIn m) is x) (grown_spines side e b key m n.tree (spines_part key m n.way n.tree n.fits (subst (SpinesIn m) is x)));

@@ -28,6 +28,8 @@ pub record IsRoomy (a : Parts) (root : ℕ) : Type 0 where
 -- the tree of a root has the entry behind all items of at most its key, and all other trees stay
 pub record Planted (a z : Parts) (trees : ℕ → Option Tree) (root entry key : ℕ) : Type 0 where
   pub after : Tree
+  pub elements : length z.elements ≡ length a.elements
+  pub roots : length z.links ≡ length a.links
   pub shape : Shape z (with_tree trees root (Some after))
   pub items_are : items after ≡ inserted (λ y. nat_le y.key key) (record { key = key; entry = entry }) (items_of (trees root))
   pub spines : (m : ℕ) → SpinesIn m (trees root) → Spines (m + 1) after

@@ -2,6 +2,8 @@
 #![tactic(auto)]
 
 mod descent;
+mod forest;
 mod planting;
 
+pub use forest::Forest;
 pub use planting::plant;

@@ -15,7 +15,7 @@ use Rattle.eb_arena.proofs.Ways.{part_split}
 use Rattle.eb_arena.proofs.Unique.{one_way, leads_somewhere}
 use Rattle.eb_dups.specs.Grown.{attached, with_tree}
 use Rattle.eb_dups.specs.Spine.{IsTwins, spine_value, depth, depth_of, IsWhole, IsSpine, HasGap, KeyHead, TwinAdded, IsTwinTree, IsSlot}
-use Rattle.eb_dups.proofs.Regrown.{Growth, grown_shape}
+use Rattle.eb_dups.proofs.Regrown.{Growth, Outcome, outcome, grown_shape}
 use Rattle.eb_dups.proofs.Descent.{depth_of_is}
 use Rattle.eb_dups.proofs.Added.{plug-append, HasRoom, regrow_split, spine_up, items_up, keys_up, keys_part, twins_up, spine_le, below_self, pow_small}
 
@@ -87,8 +87,11 @@ added_at a slot e trees root way d part_place part g sp sn gap wh tw ks full sma
     let whole : Split (plug (d ++ way) new) = regrow_split (d ++ way) part new sp split (λ x y. inl y) has (room_of d way part e key gap wh) in
     let shape : Shape (attached a slot part_place e sides.Right (negsuc (depth part))) (with_tree trees root (Some (plug (d ++ way) new))) = grown_shape a trees root (d ++ way) slot part_place part e sides.Right (negsuc (depth part)) g whole in
     let z : Parts = attached a slot part_place e sides.Right (negsuc (depth part)) in
+    let out : Outcome a z root (d ++ way) slot part_place part e sides.Right (negsuc (depth part)) = outcome a trees root (d ++ way) slot part_place part e sides.Right (negsuc (depth part)) g in
     record {
       after = plug d new;
+      elements = out.grew.count;
+      roots = out.grew.roots;
       shape = subst (λ t. Shape z (with_tree trees root (Some t))) (plug-append d way new) shape;
       items_are = items_up d part new (record { key = key; entry = e } ∷ []) sn refl;
       spine = spine_up d part new sn (let x : 2 ^ depth part + 0 ≡ spine_value part + 1 = omega (arith, full) in x);

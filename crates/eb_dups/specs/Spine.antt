@@ -59,6 +59,8 @@ pub record KeyHead (a : Parts) (head : Target) (key : ℕ) : Type 0 where
 -- the tree of the key after an insertion: the entry stands at its end, and its spine value rose by one
 pub record TwinAdded (a z : Parts) (trees : ℕ → Option Tree) (root : ℕ) (way : List Step) (tree : Tree) (key entry : ℕ) : Type 0 where
   pub after : Tree
+  pub elements : length z.elements ≡ length a.elements
+  pub roots : length z.links ≡ length a.links
   pub shape : Shape z (with_tree trees root (Some (plug way after)))
   pub items_are : items after ≡ items tree ++ record { key = key; entry = entry } ∷ []
   pub spine : spine_value after ≡ spine_value tree + 1
