@@ -32,10 +32,11 @@ same_fresh a q e (tip x k) f h =
     let s : SameLeaf a (hung a (targets.Leaf e) (root_place a q)) x = hung_leaf a (targets.Leaf e) (root_place a q) x f (λ y. let z : targets.Leaf e ≡ targets.Leaf x = y in h.leaf (ap index_of z)) in
     record { leaf_p = s.leaf_p; key = s.key }
 same_fresh a q e (fork i b l r) f h =
-    let s : SameNode a (hung a (targets.Leaf e) (root_place a q)) i = hung_node a (targets.Leaf e) (root_place a q) i f (λ y. let z : targets.Leaf e ≡ targets.Node i = y in cc) in
-    (record { node_p = s.node_p; bit = s.bit; left = s.left; right = s.right },
+    let s : SameNode a (hung a (targets.Leaf e) (root_place a q)) i = hung_node a (targets.Leaf e) (root_place a q) i f (λ y. let z : targets.Leaf e ≡ targets.Node i = y in cc) in (
+      record { node_p = s.node_p; bit = s.bit; left = s.left; right = s.right },
       same_fresh a q e l f (record { leaf = λ y. h.leaf (inl y); node = λ y. h.node (inr (inl y)) }),
-      same_fresh a q e r f (record { leaf = λ y. h.leaf (inr y); node = λ y. h.node (inr (inr y)) }))
+      same_fresh a q e r f (record { leaf = λ y. h.leaf (inr y); node = λ y. h.node (inr (inr y)) }),
+    )
 
 empty_tree : (a : Parts) (q : ℕ) (o : Option Tree) → IsRoot a q o → link_at a q ≡ targets.Nothing → o ≡ None
 empty_tree a q None h e = refl
@@ -85,13 +86,13 @@ first_planted a q e fq fe em fr ts sh =
         leaves = λ i f n. elim (cases_eq i e) [
           | inl h ↦ subst (λ y. InSome z us (HasLeaf y)) (sym h) is_in
           | inr ne ↦
-            let x : InSome a ts (HasLeaf i) = sh.leaves i (subst (λ m. i < m) c f) (λ h. n (ap (λ m. m.leaf_p) (at_other a e i el ne) ∙ h)) in
-            (x.0, (subst (λ m. x.0 < m) (sym cl) x.1.0, some_other ts q x.0 (Some t) (HasLeaf i) none x.1.1))
+              let x : InSome a ts (HasLeaf i) = sh.leaves i (subst (λ m. i < m) c f) (λ h. n (ap (λ m. m.leaf_p) (at_other a e i el ne) ∙ h)) in
+              (x.0, (subst (λ m. x.0 < m) (sym cl) x.1.0, some_other ts q x.0 (Some t) (HasLeaf i) none x.1.1))
         ];
         nodes = λ i f n.
-          let s : SameNode a (hung a (targets.Leaf e) (root_place a q)) i = hung_node a (targets.Leaf e) (root_place a q) i fe (λ y. let w : targets.Leaf e ≡ targets.Node i = y in cc) in
-          let x : InSome a ts (HasNode i) = sh.nodes i (subst (λ m. i < m) c f) (λ h. n (s.node_p ∙ h)) in
-          (x.0, (subst (λ m. x.0 < m) (sym cl) x.1.0, some_other ts q x.0 (Some t) (HasNode i) none x.1.1));
+            let s : SameNode a (hung a (targets.Leaf e) (root_place a q)) i = hung_node a (targets.Leaf e) (root_place a q) i fe (λ y. let w : targets.Leaf e ≡ targets.Node i = y in cc) in
+            let x : InSome a ts (HasNode i) = sh.nodes i (subst (λ m. i < m) c f) (λ h. n (s.node_p ∙ h)) in
+            (x.0, (subst (λ m. x.0 < m) (sym cl) x.1.0, some_other ts q x.0 (Some t) (HasNode i) none x.1.1));
       };
       items_are = let y : items_of (ts q) ≡ [] = ap items_of none in ap (inserted (λ w. nat_le w.key key) (record { key = key; entry = e })) (sym y);
       spines = λ m h. tt;

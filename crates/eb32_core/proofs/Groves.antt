@@ -29,19 +29,20 @@ key_node a e key x f =
     let d : Element = record (element_at a e) { key = key } in
     elim (cases_eq x e) [
       | inl h ↦ let r : element_at (keyed a e key) x ≡ d = ap (element_at (keyed a e key)) h ∙ at_set a e d f in
-        record { node_p = ap (λ m. m.node_p) r ∙ ap (λ m. (element_at a m).node_p) (sym h); bit = ap (λ m. m.bit) r ∙ ap (λ m. (element_at a m).bit) (sym h); left = ap (λ m. m.left) r ∙ ap (λ m. (element_at a m).left) (sym h); right = ap (λ m. m.right) r ∙ ap (λ m. (element_at a m).right) (sym h) }
+          record { node_p = ap (λ m. m.node_p) r ∙ ap (λ m. (element_at a m).node_p) (sym h); bit = ap (λ m. m.bit) r ∙ ap (λ m. (element_at a m).bit) (sym h); left = ap (λ m. m.left) r ∙ ap (λ m. (element_at a m).left) (sym h); right = ap (λ m. m.right) r ∙ ap (λ m. (element_at a m).right) (sym h) }
       | inr n ↦ let r : element_at (keyed a e key) x ≡ element_at a x = at_other a e x d n in
-        record { node_p = ap (λ m. m.node_p) r; bit = ap (λ m. m.bit) r; left = ap (λ m. m.left) r; right = ap (λ m. m.right) r }
+          record { node_p = ap (λ m. m.node_p) r; bit = ap (λ m. m.bit) r; left = ap (λ m. m.left) r; right = ap (λ m. m.right) r }
     ]
 
 key_on : (a : Parts) (e key : ℕ) (t : Tree) → e < length a.elements → Fresh e t → SameOn a (keyed a e key) t
 key_on a e key (tip x k) f h =
     let r : element_at (keyed a e key) x ≡ element_at a x = at_other a e x (record (element_at a e) { key = key }) (λ y. h.leaf (sym y)) in
     record { leaf_p = ap (λ m. m.leaf_p) r; key = ap (λ m. m.key) r }
-key_on a e key (fork i b l r) f h =
-    (key_node a e key i f,
-      key_on a e key l f (record { leaf = λ y. h.leaf (inl y); node = λ y. h.node (inr (inl y)) }),
-      key_on a e key r f (record { leaf = λ y. h.leaf (inr y); node = λ y. h.node (inr (inr y)) }))
+key_on a e key (fork i b l r) f h = (
+  key_node a e key i f,
+  key_on a e key l f (record { leaf = λ y. h.leaf (inl y); node = λ y. h.node (inr (inl y)) }),
+  key_on a e key r f (record { leaf = λ y. h.leaf (inr y); node = λ y. h.node (inr (inr y)) }),
+)
 
 key_leaf : (a : Parts) (e key x : ℕ) → e < length a.elements → (element_at (keyed a e key) x).leaf_p ≡ (element_at a x).leaf_p
 key_leaf a e key x f =
@@ -137,15 +138,15 @@ inserted_grove f z root entry key t r e n pl =
         trees = us;
         shape = p.shape;
         spines = λ q g.
-          let h : q < length a.links = subst (λ y. q < y) cl g in
-          elim (cases_eq q root) [
-            | inl w ↦
-              let v : get_or (set f.made root (m + 1)) q 0 ≡ m + 1 = ap (λ y. get_or (set f.made root (m + 1)) y 0) w ∙ get_or-set_same f.made root (m + 1) 0 rm in
-              subst (λ y. SpinesIn y (us q)) (sym v) (spines_rise m (us q) p.after (p.spines m (t.spines root r)) (ap us w ∙ tree_at t.trees root (Some p.after)))
-            | inr d ↦
-              let v : get_or (set f.made root (m + 1)) q 0 ≡ get_or f.made q 0 = get_or-set_other f.made root q (m + 1) 0 d in
-              subst (λ y. SpinesIn y (us q)) (sym v) (subst (SpinesIn (get_or f.made q 0)) (sym (tree_other t.trees root q (Some p.after) d)) (t.spines q h))
-          ];
+            let h : q < length a.links = subst (λ y. q < y) cl g in
+            elim (cases_eq q root) [
+              | inl w ↦
+                  let v : get_or (set f.made root (m + 1)) q 0 ≡ m + 1 = ap (λ y. get_or (set f.made root (m + 1)) y 0) w ∙ get_or-set_same f.made root (m + 1) 0 rm in
+                  subst (λ y. SpinesIn y (us q)) (sym v) (spines_rise m (us q) p.after (p.spines m (t.spines root r)) (ap us w ∙ tree_at t.trees root (Some p.after)))
+              | inr d ↦
+                  let v : get_or (set f.made root (m + 1)) q 0 ≡ get_or f.made q 0 = get_or-set_other f.made root q (m + 1) 0 d in
+                  subst (λ y. SpinesIn y (us q)) (sym v) (subst (SpinesIn (get_or f.made q 0)) (sym (tree_other t.trees root q (Some p.after) d)) (t.spines q h))
+            ];
       };
       seen = ap (λ l. let s : KeyedRoots = record { roots = l; entries = length z.elements } in s) (lists ∙ ap (λ x. set (lists_from a 0 f.made) root (with_entry key entry x)) (sym at)) ∙ ap (λ c. let s : KeyedRoots = record { roots = set (lists_from a 0 f.made) root (with_entry key entry (root_at root (seen_of f))); entries = c } in s) ce;
     }

@@ -61,14 +61,14 @@ node_ends a key i place (fork j (pos b) l r) s p t =
     record {
       twins = λ h. absurd (no (ap (λ z. z / 2 ^ b / 2) (sym h)));
       near = λ c h.
-        let lt : b < c = elim (cases_lt b c) [
-          | inl lt ↦ lt
-          | inr le ↦
-            let u : own / 2 ^ suc c ≡ key / 2 ^ suc c = sym (half_is c own) ∙ (h.above ∙ half_is c key) in
-            let v : own / 2 ^ suc b ≡ key / 2 ^ suc b = div_level (suc c) (suc b) own key (omega arith) u in
-            absurd (no (half_is b key ∙ (sym v ∙ sym (half_is b own))))
-        ] in
-        keys_map (λ x. x / 2 ^ b / 2 ≡ d.q) (λ x. x / 2 ^ c ≡ own / 2 ^ c) (fork j (pos b) l r) (λ x f. div_level (suc b) c x own (omega arith) (sym (half_is b x) ∙ (f ∙ (sym o ∙ half_is b own)))) up;
+          let lt : b < c = elim (cases_lt b c) [
+            | inl lt ↦ lt
+            | inr le ↦
+                let u : own / 2 ^ suc c ≡ key / 2 ^ suc c = sym (half_is c own) ∙ (h.above ∙ half_is c key) in
+                let v : own / 2 ^ suc b ≡ key / 2 ^ suc b = div_level (suc c) (suc b) own key (omega arith) u in
+                absurd (no (half_is b key ∙ (sym v ∙ sym (half_is b own))))
+          ] in
+          keys_map (λ x. x / 2 ^ b / 2 ≡ d.q) (λ x. x / 2 ^ c ≡ own / 2 ^ c) (fork j (pos b) l r) (λ x f. div_level (suc b) c x own (omega arith) (sym (half_is b x) ∙ (f ∙ (sym o ∙ half_is b own)))) up;
     }
 
 land : (a : Parts) (q key : ℕ) (target : Target) (n : Narrow a q key target) → Lies (own_key a target) key n.tree → Ends (own_key a target) key n.tree → IsLanding a q key target
@@ -92,8 +92,8 @@ bit_small x y b f g n =
     elim (cases_lt b 32) [
       | inl lt ↦ lt
       | inr le ↦
-        let u : x / 2 ^ 32 ≡ y / 2 ^ 32 = let s : x / 2 ^ 32 ≡ 0 = omega arith in let t : y / 2 ^ 32 ≡ 0 = omega arith in s ∙ sym t in
-        absurd (n (div_level 32 b x y le u))
+          let u : x / 2 ^ 32 ≡ y / 2 ^ 32 = let s : x / 2 ^ 32 ≡ 0 = omega arith in let t : y / 2 ^ 32 ≡ 0 = omega arith in s ∙ sym t in
+          absurd (n (div_level 32 b x y le u))
     ]
 
 half_one : (b x : ℕ) → x / 2 ^ b / 2 ≡ x / 2 ^ (b + 1)

@@ -111,8 +111,20 @@ landed_head a q part e l h f o =
     let s : Spines h.most n.tree = spines_part (element_at a e).key h.most n.way n.tree n.fits (subst (SpinesIn h.most) is h.spines) in
     let le : spine_value n.tree ≤ h.most = twins_spine h.most n.tree (l.twins o) s in
     record {
-      trees = h.trees; root = q; way = n.way; place = n.place; tree = n.tree; shape = h.shape; exists = f; tree_is = is; leads = n.leads; stands = n.stands;
-      whole = fits_whole (element_at a e).key n.way n.fits; twins = l.twins o; keys = l.same o; room = let r : h.most < 2 ^ 63 - 1 = h.room in omega (arith, le, r);
+      trees = h.trees;
+      root = q;
+      way = n.way;
+      place = n.place;
+      tree = n.tree;
+      shape = h.shape;
+      exists = f;
+      tree_is = is;
+      leads = n.leads;
+      stands = n.stands;
+      whole = fits_whole (element_at a e).key n.way n.fits;
+      twins = l.twins o;
+      keys = l.same o;
+      room = let r : h.most < 2 ^ 63 - 1 = h.room in omega (arith, le, r);
     }
 
 -- an insertion beside equal keys plants the entry
@@ -136,10 +148,10 @@ twin_planted a z q part e l f o h ts sh =
       shape = r.shape;
       items_are = new ∙ (sym (inserted_at (bs ++ items n.tree) zs e key (all-append (λ x. x ≤ key) bs (items n.tree) low mid) n.high) ∙ ap (inserted (λ y. nat_le y.key key) item) (sym old));
       spines = λ m s.
-        let w : Spines m (plug n.way n.tree) = subst (SpinesIn m) is s in
-        let le : spine_value n.tree ≤ m = twins_spine m n.tree (l.twins o) (spines_part key m n.way n.tree n.fits w) in
-        let up : spine_value r.after ≡ spine_value n.tree + 1 = r.spine in
-        spines_up key m n.way n.tree r.after n.fits w (spine_twins (m + 1) r.after r.twins (omega (arith, le, up)));
+          let w : Spines m (plug n.way n.tree) = subst (SpinesIn m) is s in
+          let le : spine_value n.tree ≤ m = twins_spine m n.tree (l.twins o) (spines_part key m n.way n.tree n.fits w) in
+          let up : spine_value r.after ≡ spine_value n.tree + 1 = r.spine in
+          spines_up key m n.way n.tree r.after n.fits w (spine_twins (m + 1) r.after r.twins (omega (arith, le, up)));
     }
 
 -- what the new node over the part divides

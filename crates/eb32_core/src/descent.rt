@@ -6,8 +6,8 @@ ghost use Rattle.eb_arena.specs.Parts.{link_at};
 ghost use Rattle.eb_arena.specs.declared.links.Target.TheVariants as targets;
 ghost use Rattle.eb32_core.specs.Landing.{IsLanding, IsTopBit, SideIs};
 
-use eb32_walk::turn;
 use eb_arena::{Arena, Link, Side, Target};
+use eb32_walk::turn;
 use sched_base::Steps;
 use std::sync::ledger::Ledger;
 

@@ -42,7 +42,13 @@ fn branch_off(arena: &mut Arena, root: u32, part: Link, entry: u32)
 {
     let own = arena.element(part.index()).key;
     let key = arena.element(entry).key;
-    attach(arena, part, entry, side_of(own, key), top_bit(own, key) as i16);
+    attach(
+        arena,
+        part,
+        entry,
+        side_of(own, key),
+        top_bit(own, key) as i16,
+    );
 }
 
 /// Puts an entry into a root, behind all items of at most its key. One step is one element that
