@@ -1,18 +1,16 @@
 -- The first entry of a root.
-use Rattle.std.proofs.Common.{◌≡◌, ◌≢◌, ℕ, ◌+◌, ◌<◌, ◌⊎◌, inl, inr, List, [], ◌∷◌, length, get_or, set, refl, sym, ap, ◌∙◌, subst, arith}
+use Rattle.std.proofs.Common.{◌≡◌, ℕ, ◌+◌, ◌<◌, inl, inr, [], length, refl, sym, ap, ◌∙◌, subst, arith}
 use Rattle.std.specs.Prelude.{Option, Some, None, IsSomeAnd, nat_le}
-use Rattle.sched_base.specs.KeyedList.{KeyedItem, inserted}
+use Rattle.sched_base.specs.KeyedList.{inserted}
 use Rattle.eb_arena.specs.Links.{index_of}
 use Rattle.std.proofs.lemmas.Bool.{cases_eq}
 use Rattle.std.proofs.lemmas.List.{length-set, get_or-set_same, get_or-set_other}
 use Rattle.eb_arena.specs.declared.links.Side.TheVariants as sides
-use Rattle.eb_arena.specs.declared.links.Target.{Target}
 use Rattle.eb_arena.specs.declared.links.Target.TheVariants as targets
-use Rattle.eb_arena.specs.declared.links.Place.{Place}
 use Rattle.eb_arena.specs.declared.links.Place.TheVariants as places
 use Rattle.eb_arena.specs.declared.element.Element.{Element}
-use Rattle.eb_arena.specs.Parts.{Parts, element_at, link_at, with_element, with_link, hung}
-use Rattle.eb_arena.specs.Shape.{Tree, tip, fork, items, items_of, Stands, Split, HasLeaf, HasNode, IsRoot, root_place, Shape, InSome}
+use Rattle.eb_arena.specs.Parts.{Parts, element_at, link_at, with_link, hung}
+use Rattle.eb_arena.specs.Shape.{Tree, tip, fork, items_of, Stands, HasLeaf, HasNode, IsRoot, root_place, InSome}
 use Rattle.eb_arena.specs.Laws.{SameLeaf, SameNode, SameOn}
 use Rattle.eb_arena.proofs.Frame.{kept, at_set, at_other}
 use Rattle.eb_arena.proofs.Unique.{nothing_stands}
@@ -20,7 +18,7 @@ use Rattle.eb_dups.specs.Grown.{with_tree}
 use Rattle.eb_dups.proofs.Distinct.{Fresh, fresh}
 use Rattle.eb_dups.proofs.Moves.{hung_leaf, hung_node}
 use Rattle.eb_dups.proofs.Regrown.{tree_at, tree_other}
-use Rattle.eb32_core.specs.Planted.{Spines, SpinesIn, Planted, Plants}
+use Rattle.eb32_core.specs.Planted.{Plants}
 
 -- the arena with an entry alone on a root
 abbrev pub rooted : Parts → ℕ → ℕ → Parts

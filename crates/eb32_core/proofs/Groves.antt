@@ -1,17 +1,16 @@
 -- A forest after an insertion.
-use Rattle.std.proofs.Common.{◌≡◌, ◌≢◌, ℕ, zero, suc, ◌+◌, ◌-◌, ◌^◌, ◌<◌, ◌≤◌, ◌⊎◌, inl, inr, List, [], ◌∷◌, length, get_or, set, replicate, refl, sym, ap, ◌∙◌, subst, arith}
-use Rattle.std.specs.Prelude.{Option, Some, None, slice_index, slice_set, nat_le}
+use Rattle.std.proofs.Common.{◌≡◌, ℕ, zero, suc, ◌+◌, ◌^◌, ◌<◌, inl, inr, List, [], ◌∷◌, length, get_or, set, replicate, refl, sym, ap, ◌∙◌, subst, arith}
+use Rattle.std.specs.Prelude.{Option, Some, None, slice_index, nat_le}
 use Rattle.std.proofs.lemmas.Bool.{cases_eq}
 use Rattle.std.proofs.lemmas.List.{length-set, get_or-set_same, get_or-set_other, get_or-replicate, length-replicate}
 use Rattle.sched_base.specs.KeyedList.{KeyedItem, KeyedList, KeyedRoots, inserted, with_entry, inserted_into, root_at, blank}
 use Rattle.eb_arena.specs.declared.links.Side.TheVariants as sides
-use Rattle.eb_arena.specs.declared.links.Target.{Target}
 use Rattle.eb_arena.specs.declared.links.Target.TheVariants as targets
 use Rattle.eb_arena.specs.declared.links.Place.TheVariants as places
 use Rattle.eb_arena.specs.declared.element.Element.{Element}
 use Rattle.eb_arena.specs.Parts.{Parts, element_at, link_at, with_element, unused}
-use Rattle.eb_arena.specs.Shape.{Tree, tip, fork, items, items_of, Stands, IsRoot, Shape, HasLeaf, HasNode, root_place, list_of}
-use Rattle.eb_arena.specs.Laws.{SameLeaf, SameNode, SameOn}
+use Rattle.eb_arena.specs.Shape.{Tree, tip, fork, items_of, Stands, IsRoot, Shape, root_place, list_of}
+use Rattle.eb_arena.specs.Laws.{SameNode, SameOn}
 use Rattle.eb_arena.proofs.Frame.{kept, at_set, at_other}
 use Rattle.eb_arena.proofs.Reading.{list_of_is}
 use Rattle.eb_dups.specs.Grown.{with_tree}

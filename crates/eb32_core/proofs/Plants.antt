@@ -1,17 +1,16 @@
 -- The tree of a root with one more entry.
-use Rattle.std.proofs.Common.{◌≡◌, ◌≢◌, ℕ, zero, suc, ◌+◌, ◌-◌, ◌*◌, ◌/◌, ◌^◌, ◌<◌, ◌≤◌, ◌⊎◌, inl, inr, List, [], ◌∷◌, ◌++◌, length, Bool, true, false, cond, refl, sym, ap, ◌∙◌, subst, arith, append_assoc}
-use Rattle.std.specs.Prelude.{ℤ, pos, negsuc, nat_le, Option, Some, None}
-use Rattle.std.proofs.lemmas.Bool.{le-leb, lt-leb, cases_lt}
+use Rattle.std.proofs.Common.{◌≡◌, ◌≢◌, ℕ, ◌+◌, ◌-◌, ◌*◌, ◌/◌, ◌^◌, ◌<◌, ◌≤◌, inl, inr, List, [], ◌∷◌, ◌++◌, length, cond, refl, sym, ap, ◌∙◌, subst, arith, append_assoc}
+use Rattle.std.specs.Prelude.{pos, negsuc, nat_le, Option, Some}
+use Rattle.std.proofs.lemmas.Bool.{le-leb, lt-leb}
 use Rattle.std.proofs.lemmas.Nat.{pow_pos}
 use Rattle.sched_base.specs.KeyedList.{KeyedItem, inserted}
 use Rattle.eb_arena.specs.declared.links.Side.{Side}
 use Rattle.eb_arena.specs.declared.links.Side.TheVariants as sides
 use Rattle.eb_arena.specs.declared.links.Target.{Target}
-use Rattle.eb_arena.specs.declared.links.Place.{Place}
 use Rattle.eb_arena.specs.declared.links.Place.TheVariants as places
-use Rattle.eb_arena.specs.Parts.{Parts, element_at, link_at, up_of}
-use Rattle.eb_arena.specs.Shape.{Tree, tip, fork, items, items_of, Keys, AllKeys, HasLeaf, Stands, Split, DividesAt, IsRoot, Shape, list_of}
-use Rattle.eb_arena.specs.Way.{Step, from_left, from_right, plug, before, after, Leads}
+use Rattle.eb_arena.specs.Parts.{Parts, element_at, up_of}
+use Rattle.eb_arena.specs.Shape.{Tree, tip, fork, items, items_of, Keys, AllKeys, HasLeaf, Split, DividesAt, IsRoot, Shape}
+use Rattle.eb_arena.specs.Way.{Step, from_left, from_right, plug, before, after}
 use Rattle.eb_arena.proofs.Trees.{Has, keys_at, keys_map, some_key, div_le_div}
 use Rattle.eb_arena.proofs.Keyed.{all-append, all_items, all_map}
 use Rattle.eb_arena.proofs.Ways.{part_split, items-plug}
@@ -20,10 +19,10 @@ use Rattle.eb32_walk.specs.Search.{Narrow, Fits, own_key}
 use Rattle.eb_dups.specs.Grown.{grown, attached, with_tree}
 use Rattle.eb_dups.specs.Spine.{IsTwins, IsWhole, spine_value, KeyHead, TwinAdded}
 use Rattle.eb_dups.specs.Added.{AddsTwin}
-use Rattle.eb_dups.proofs.Regrown.{Growth, Outcome, outcome, grown_shape, own_leaf, grown_leaf}
+use Rattle.eb_dups.proofs.Regrown.{Growth, Outcome, outcome, grown_shape, grown_leaf}
 use Rattle.eb_dups.proofs.Ending.{up_of_is}
 use Rattle.eb32_core.specs.Landing.{IsTopBit, IsLanding, SideIs}
-use Rattle.eb32_core.specs.Planted.{Spines, SpinesIn, IsRoomy, Planted, Plants}
+use Rattle.eb32_core.specs.Planted.{Spines, SpinesIn, IsRoomy, Plants}
 
 -- an item goes in between smaller or equal keys and greater ones
 pub inserted_at : (xs ys : List KeyedItem) (e k : ℕ) → AllKeys (λ x. x ≤ k) xs → AllKeys (λ x. k < x) ys → inserted (λ y. nat_le y.key k) (record { key = k; entry = e }) (xs ++ ys) ≡ xs ++ record { key = k; entry = e } ∷ ys

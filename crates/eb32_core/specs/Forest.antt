@@ -1,5 +1,5 @@
 -- The forest: trees in one arena, and how many insertions were made into each (docs/TREES.md, "The forest").
-use Rattle.std.specs.Prelude.{◌≡◌, ℕ, zero, suc, ◌<◌, List, [], ◌∷◌, length, slice_index, Option}
+use Rattle.std.specs.Prelude.{◌≡◌, ℕ, suc, ◌<◌, List, [], ◌∷◌, length, slice_index, Option}
 use Rattle.sched_base.specs.KeyedList.{KeyedList, KeyedRoots}
 use Rattle.eb_arena.specs.Parts.{Parts}
 use Rattle.eb_arena.specs.Shape.{Tree, Shape, list_of}

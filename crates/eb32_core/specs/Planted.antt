@@ -1,6 +1,6 @@
 -- A root's tree with one more entry (docs/TREES.md, "Insertion").
-use Rattle.std.specs.Prelude.{◌≡◌, ◌≢◌, ℕ, ◌+◌, ◌-◌, ◌^◌, ◌<◌, ◌≤◌, ℤ, pos, negsuc, nat_le, length, Option, Some, None}
-use Rattle.sched_base.specs.KeyedList.{KeyedItem, inserted}
+use Rattle.std.specs.Prelude.{◌≡◌, ℕ, ◌+◌, ◌-◌, ◌^◌, ◌<◌, ◌≤◌, pos, negsuc, nat_le, length, Option, Some, None}
+use Rattle.sched_base.specs.KeyedList.{inserted}
 use Rattle.eb_arena.specs.Parts.{Parts, element_at}
 use Rattle.eb_arena.specs.Shape.{Tree, tip, fork, items, items_of, Shape}
 use Rattle.eb_dups.specs.Grown.{with_tree}

@@ -4,6 +4,8 @@
 mod descent;
 mod forest;
 mod planting;
+#[cfg(test)]
+mod tests;
 
 pub use forest::Forest;
 pub use planting::plant;

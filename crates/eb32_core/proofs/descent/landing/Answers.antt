@@ -1,4 +1,4 @@
-use Rattle.std.proofs.Common.{◌≡◌, sym, ap, ◌∙◌, subst}
+use Rattle.std.proofs.Common.{sym, ap, ◌∙◌, subst}
 use Rattle.eb_arena.specs.Shape.{IsBit}
 use Rattle.eb32_walk.proofs.Seeking.{narrow_start, narrow_turn, node_has}
 use Rattle.eb32_core.proofs.Landings.{land_node, land_leaf}

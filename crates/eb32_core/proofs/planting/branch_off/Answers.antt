@@ -1,4 +1,4 @@
-use Rattle.std.proofs.Common.{◌≡◌, ◌<◌, ℤ, pos, length, sym, ap, ◌∙◌, subst, w16, arith, ◌^◌}
+use Rattle.std.proofs.Common.{◌≡◌, ◌<◌, pos, length, sym, ap, ◌∙◌, subst, w16, arith, ◌^◌}
 use mir.Val.{to_z, hbits}
 use Rattle.std.proofs.lemmas.Int.{to_z_pos}
 use Rattle.eb_arena.specs.Parts.{element_at, up_of}

@@ -1,8 +1,8 @@
-use Rattle.std.proofs.Common.{◌≡◌, ◌+◌, length, sym, ap, ◌∙◌, subst}
+use Rattle.std.proofs.Common.{◌≡◌, ◌+◌, sym, ap, ◌∙◌, subst}
 use Rattle.eb_arena.specs.declared.links.Side.TheVariants as sides
 use Rattle.eb_arena.specs.declared.links.Target.TheVariants as targets
 use Rattle.eb_arena.specs.declared.links.Place.TheVariants as places
-use Rattle.eb_arena.specs.Parts.{Parts, hung, with_link}
+use Rattle.eb_arena.specs.Parts.{hung, with_link}
 use Rattle.eb_arena.specs.Shape.{root_place}
 use Rattle.eb32_core.specs.Planted.{Plants}
 use Rattle.eb32_core.proofs.First.{rooted, first_planted}

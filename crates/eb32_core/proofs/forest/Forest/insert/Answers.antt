@@ -1,9 +1,9 @@
-use Rattle.std.proofs.Common.{◌≡◌, ℕ, ◌+◌, ◌<◌, ◌^◌, set, get_or, length, slice_index, sym, ap, ◌∙◌, subst}
+use Rattle.std.proofs.Common.{◌≡◌, ◌+◌, ◌<◌, ◌^◌, set, length, slice_index, sym, ap, ◌∙◌, subst}
 use Rattle.std.proofs.lemmas.List.{get_or_default}
 use Rattle.sched_base.specs.KeyedList.{inserted_into}
 use Rattle.eb_arena.specs.declared.links.Place.TheVariants as places
 use Rattle.eb_arena.specs.declared.element.Element.{Element}
-use Rattle.eb_arena.specs.Parts.{Parts, element_at, with_element}
+use Rattle.eb_arena.specs.Parts.{element_at, with_element}
 use Rattle.eb32_core.specs.Forest.{Grove, IsTended, seen_of}
 use Rattle.eb32_core.specs.Planted.{Plants, IsRoomy}
 use Rattle.eb32_core.proofs.Groves.{Inserted, keyed, roomy, inserted_grove}
