@@ -2,8 +2,10 @@
 //! (docs/TIMERS.md).
 #![tactic(auto)]
 
+mod laws;
 mod run_queue;
 #[cfg(test)]
 mod tests;
 
+pub use laws::{run_queues_stay_beside, runners_are_odd};
 pub use run_queue::RunQueue;

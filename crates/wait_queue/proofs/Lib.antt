@@ -1,3 +1,4 @@
+pub mod Beside
 pub mod FirstItem
 pub mod Meaning
 pub mod SoFar

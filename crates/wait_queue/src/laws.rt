@@ -1,6 +1,6 @@
 //! Laws of wait lists: each function does nothing, and its contract is the law.
 
-ghost use Rattle.wait_queue.specs.Laws.{StepsComeToTheSweep, WaitListsStay};
+ghost use Rattle.wait_queue.specs.Laws.{StepsComeToTheSweep, TimersAreEven, WaitListsStay, WaitQueuesStayBeside};
 
 /// Calls of `sweep_next` at one tick until it answers none, with no other call between, are the
 /// whole sweep at that tick.
@@ -13,4 +13,17 @@ pub fn steps_come_to_the_sweep()
 #[tactic(auto, using(crate::proofs::Whole::lists_stay))]
 pub fn wait_lists_stay_in_the_window()
     ensures { WaitListsStay }
+{}
+
+/// What changes another root, and leaves none of the queue's entries there, leaves the queue fitting
+/// and its wait list as it was.
+#[tactic(auto, using(crate::proofs::Beside::stays_beside))]
+pub fn wait_queues_stay_beside()
+    ensures { WaitQueuesStayBeside }
+{}
+
+/// The root of a wait queue holds even entries alone.
+#[tactic(auto, using(crate::proofs::Beside::own_entries))]
+pub fn timers_are_even()
+    ensures { TimersAreEven }
 {}
