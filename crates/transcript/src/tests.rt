@@ -32,6 +32,37 @@ c0 retire 0 queued - killed 2
 end rest 3
 ";
 
+/// The same with a round left out.
+const ROUND_LEFT_OUT: &[u8] = b"taskrun 1
+round 0 tick 4294967290
+c0 get 0 0000000000000001
+c0 take 0 queued init live 0
+c0 drop 0 runs - live 1
+round 1 tick 4294967294
+c0 get 0 0000000000000000
+round 3 tick 2
+";
+
+/// The same with an end that names another round than the last.
+const OTHER_END: &[u8] = b"taskrun 1
+round 0 tick 4294967290
+c0 get 0 0000000000000001
+c0 take 0 queued init live 0
+c0 drop 0 runs - live 1
+round 1 tick 4294967294
+c0 get 0 0000000000000000
+round 2 tick 2
+c0 get 0 0000000000000000
+round 3 tick 6
+c0 get 0 0000000000000000
+c0 wake 0 timer rest - live 1
+c0 take 0 queued timer live 1
+c0 kill 0 runs - live 2
+c0 drop 0 runs - killed 2
+c0 retire 0 queued - killed 2
+end rest 4
+";
+
 /// Each call and each reply, with the largest numbers.
 const EVERY_WORD: &[u8] = b"taskrun 1
 round 0 tick 4294967295
@@ -87,7 +118,7 @@ fn what_is_read_is_written_again(rt: HostRuntime) -> Result<(), Fail> {
 
 #[test]
 fn the_first_bad_line_is_named(rt: HostRuntime) -> Result<(), Fail> {
-    let cases: [(&[u8], u32, u8); 10] = [
+    let cases: [(&[u8], u32, u8); 19] = [
         (b"taskrun 2\n", 1, 1),
         (
             b"taskrun 1\nround 0 tick 0\nc0 get 0 000000000000000A\n",
@@ -95,7 +126,23 @@ fn the_first_bad_line_is_named(rt: HostRuntime) -> Result<(), Fail> {
             1,
         ),
         (
+            b"taskrun 1\nround 0 tick 0\nc0 get 0 000000000000000\n",
+            3,
+            1,
+        ),
+        (
+            b"taskrun 1\nround 0 tick 0\nc0 get 0 00000000000000000\n",
+            3,
+            1,
+        ),
+        (
             b"taskrun 1\nround 0 tick 0\nc0 wake 0 timer,init gone\n",
+            3,
+            1,
+        ),
+        (b"taskrun 1\nround 0 tick 0\nc0 wake 0 io,io gone\n", 3, 1),
+        (
+            b"taskrun 1\nround 0 tick 0\nc0 kill 0 rest -,io live 0\n",
             3,
             1,
         ),
@@ -105,10 +152,19 @@ fn the_first_bad_line_is_named(rt: HostRuntime) -> Result<(), Fail> {
             1,
         ),
         (b"round 0 tick 0\n", 1, 2),
+        (b"taskrun 1\ntaskrun 1\n", 2, 2),
+        (b"taskrun 1\nc0 get 0 0000000000000000\n", 2, 2),
         (b"taskrun 1\nend rest 0\n", 2, 2),
         (b"taskrun 1\nround 0 tick 0\nend rest 1\n", 3, 2),
+        (
+            b"taskrun 1\nround 0 tick 0\nend rest 0\nround 1 tick 0\n",
+            4,
+            2,
+        ),
         (b"taskrun 1\nround 0 tick 0\nend rest 0\nx", 4, 2),
         (b"", 1, 3),
+        (ROUND_LEFT_OUT, 8, 2),
+        (OTHER_END, 17, 2),
         (&WRAPPED_TIMER[..204], 10, 3),
     ];
     for (text, line, kind) in cases {
