@@ -4,8 +4,12 @@
 mod descent;
 mod forest;
 mod planting;
+mod removal;
+mod replacing;
 #[cfg(test)]
 mod tests;
+mod unlinking;
 
 pub use forest::Forest;
 pub use planting::plant;
+pub use removal::uproot;
