@@ -3,3 +3,11 @@ pub mod Plants
 pub mod First
 pub mod Placing
 pub mod Groves
+pub mod UnlinkNames
+pub mod UnlinkSteps
+pub mod UnlinkSplit
+pub mod UnlinkItems
+pub mod UnlinkSpines
+pub mod UnlinkSpares
+pub mod UnlinkWrites
+pub mod UnlinkCut
