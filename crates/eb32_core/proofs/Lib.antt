@@ -11,3 +11,6 @@ pub mod UnlinkSpines
 pub mod UnlinkSpares
 pub mod UnlinkWrites
 pub mod UnlinkCut
+pub mod UnlinkFoot
+pub mod UnlinkWhole
+pub mod UnlinkEntry
