@@ -14,3 +14,4 @@ pub mod UnlinkCut
 pub mod UnlinkFoot
 pub mod UnlinkWhole
 pub mod UnlinkEntry
+pub mod UnlinkReads
