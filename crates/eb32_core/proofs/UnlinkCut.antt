@@ -1,28 +1,21 @@
 -- A root's tree without a leaf and the node above it stands.
-use Rattle.std.proofs.Common.{◌≡◌, ℕ, ◌+◌, ◌<◌, ◌⊎◌, inl, inr, List, [], ◌∷◌, length, set, get_or, refl, sym, ap, ◌∙◌, subst}
+use Rattle.std.proofs.Common.{◌≡◌, ℕ, ◌<◌, inl, inr, List, [], length, refl, sym, ap, subst}
 use Rattle.std.specs.Prelude.{ℤ}
-use Rattle.std.proofs.lemmas.Bool.{cases_eq}
-use Rattle.std.proofs.lemmas.List.{length-set, get_or-set_same, get_or-set_other}
 use Rattle.eb_arena.specs.declared.links.Side.{Side}
-use Rattle.eb_arena.specs.declared.links.Side.TheVariants as sides
 use Rattle.eb_arena.specs.declared.links.Target.{Target}
-use Rattle.eb_arena.specs.declared.links.Target.TheVariants as targets
 use Rattle.eb_arena.specs.declared.links.Place.{Place}
 use Rattle.eb_arena.specs.declared.links.Place.TheVariants as places
-use Rattle.eb_arena.specs.declared.element.Element.{Element}
 use Rattle.eb_arena.specs.Links.{index_of, opposite}
-use Rattle.eb_arena.specs.Parts.{Parts, element_at, link_at, with_element, with_link, child, with_child, linked}
+use Rattle.eb_arena.specs.Parts.{Parts, element_at, link_at}
 use Rattle.eb_arena.specs.Shape.{Tree, tip, fork, Stands, Split, HasLeaf, HasNode, root_place}
-use Rattle.eb_arena.specs.Way.{Step, from_left, from_right, plug, Leads}
-use Rattle.eb_arena.specs.Laws.{SameLeaf, SameNode, SameOn}
-use Rattle.eb_arena.proofs.Frame.{kept, moved, at_set}
-use Rattle.eb_arena.proofs.Ways.{part_split}
-use Rattle.eb_dups.proofs.Distinct.{NoShare, Distinct, distinct, part_distinct, away}
-use Rattle.eb_dups.proofs.Moves.{LinkedNode, linked_node, linked_root}
-use Rattle.eb_dups.proofs.Regrown.{top_leaf, top_node, plug_leaf, plug_node, SameWay, lift}
-use Rattle.eb32_core.proofs.UnlinkSteps.{step, paired, pair_near_leaf, pair_far_leaf, pair_near_node, pair_far_node, pair_top, Apart, pair_apart, PairStands, pair_stands, stands_pair, StepLeads, step_leads, Rechild, rechild}
-use Rattle.eb32_core.proofs.UnlinkSpares.{Spares, spares_then, spares_less, spares_child, spares_link, spares_on, spares_way}
-use Rattle.eb32_core.proofs.UnlinkWrites.{loosened, raised, cut, CutLeaf, CutNode, loosened_count, spares_loosened, spares_raised, Loose, loose_raised, loose_later, raised_links}
+use Rattle.eb_arena.specs.Way.{Step, plug, Leads}
+use Rattle.eb_arena.specs.Laws.{SameLeaf, SameOn}
+use Rattle.eb_arena.proofs.Frame.{kept, moved}
+use Rattle.eb_dups.proofs.Distinct.{NoShare, Distinct, distinct, part_distinct}
+use Rattle.eb_dups.proofs.Regrown.{top_leaf, top_node}
+use Rattle.eb32_core.proofs.UnlinkSteps.{paired, pair_near_leaf, pair_far_leaf, pair_far_node, pair_top, Apart, pair_apart}
+use Rattle.eb32_core.proofs.UnlinkSpares.{Spares, spares_on}
+use Rattle.eb32_core.proofs.UnlinkWrites.{loosened, raised, CutLeaf, CutNode, spares_loosened, spares_raised, Loose, loose_raised, raised_links}
 
 -- a leaf of root q's tree with a node above it, on whose other side is a part
 pub record Hanging (a : Parts) (q : ℕ) (w : List Step) (side : Side) (e p k : ℕ) (b : ℤ) (part : Target) (u : Tree) : Type 0 where
@@ -55,7 +48,8 @@ pub record Raised (a c : Parts) (w : List Step) (side : Side) (e p k : ℕ) (b :
   pub leaf_there : (x : ℕ) → CutLeaf e part x → HasLeaf x (paired side p b (tip e k) u)
   pub node_there : (x : ℕ) → CutNode p part x → HasNode x (paired side p b (tip e k) u)
 
-part_in : (a : Parts) (part : Target) (place : Place) (s : Tree) → Stands a part place s → index_of part < length a.elements
+-- a part of a tree is an element
+pub part_in : (a : Parts) (part : Target) (place : Place) (s : Tree) → Stands a part place s → index_of part < length a.elements
 part_in a part place (tip e k) s = subst (λ n. n < length a.elements) (sym (ap index_of s.0)) s.1
 part_in a part place (fork i b l r) s = subst (λ n. n < length a.elements) (sym (ap index_of s.0)) s.1
 

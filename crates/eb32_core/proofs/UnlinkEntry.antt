@@ -1,5 +1,5 @@
 -- The leaf of an entry, the node above it, and what is on its other side.
-use Rattle.std.proofs.Common.{◌≡◌, ◌≢◌, ℕ, ◌+◌, ◌<◌, ◌⊎◌, inl, inr, List, [], ◌∷◌, length, refl, sym, ap, ◌∙◌, subst, arith}
+use Rattle.std.proofs.Common.{◌≡◌, ℕ, ◌+◌, ◌<◌, List, [], ◌∷◌, length, refl, sym, ap, ◌∙◌, subst, arith}
 use Rattle.std.specs.Prelude.{ℤ, Option, Some, None, IsSomeAnd}
 use Rattle.eb_arena.specs.declared.links.Side.TheVariants as sides
 use Rattle.eb_arena.specs.declared.links.Target.{Target}
@@ -16,7 +16,7 @@ use Rattle.eb32_walk.specs.Ends.{IsIn}
 use Rattle.eb32_core.specs.Removal.{Unlinked, Unlinks}
 use Rattle.eb32_core.proofs.UnlinkSteps.{paired}
 use Rattle.eb32_core.proofs.UnlinkWrites.{cut}
-use Rattle.eb32_core.proofs.UnlinkCut.{Hanging, Cut}
+use Rattle.eb32_core.proofs.UnlinkCut.{part_in, Hanging, Cut}
 use Rattle.eb32_core.proofs.UnlinkFoot.{cut_is}
 use Rattle.eb32_core.proofs.UnlinkWhole.{unlinked_by}
 
@@ -83,10 +83,6 @@ pub record MayUnlink (a : Parts) (e : ℕ) (place : Place) : Type 0 where
 part_some : (a : Parts) (part : Target) (place : Place) (t : Tree) → Stands a part place t → part ≡ targets.Nothing → ⊥
 part_some a part place (tip e k) s h = let z : targets.Nothing ≡ targets.Leaf e = sym h ∙ s.0 in cc
 part_some a part place (fork i b l r) s h = let z : targets.Nothing ≡ targets.Node i = sym h ∙ s.0 in cc
-
-part_in : (a : Parts) (part : Target) (place : Place) (t : Tree) → Stands a part place t → index_of part < length a.elements
-part_in a part place (tip e k) s = subst (λ n. n < length a.elements) (sym (ap index_of s.0)) s.1
-part_in a part place (fork i b l r) s = subst (λ n. n < length a.elements) (sym (ap index_of s.0)) s.1
 
 place_in : (a : Parts) (q : ℕ) (place : Place) (w : List Step) → q < length a.links → Leads a q place w → place_index place < length a.elements + length a.links
 place_in a q place [] f l = let x : place_index place ≡ length a.elements + q = ap place_index l in omega arith

@@ -1,5 +1,5 @@
 -- A root's tree without a leaf and the node above it, by where this node hangs.
-use Rattle.std.proofs.Common.{◌≡◌, ℕ, ◌+◌, ◌<◌, ◌⊎◌, inl, inr, List, [], ◌∷◌, length, set, get_or, refl, sym, ap, ◌∙◌, subst}
+use Rattle.std.proofs.Common.{◌≡◌, ℕ, ◌+◌, ◌<◌, ◌⊎◌, inl, inr, List, [], ◌∷◌, length, get_or, refl, sym, ap, ◌∙◌, subst}
 use Rattle.std.specs.Prelude.{ℤ}
 use Rattle.std.proofs.lemmas.Bool.{cases_eq}
 use Rattle.std.proofs.lemmas.List.{length-set, get_or-set_same, get_or-set_other}
@@ -12,16 +12,16 @@ use Rattle.eb_arena.specs.declared.links.Place.TheVariants as places
 use Rattle.eb_arena.specs.declared.element.Element.{Element}
 use Rattle.eb_arena.specs.Links.{opposite}
 use Rattle.eb_arena.specs.Parts.{Parts, element_at, link_at, with_element, with_link, child, with_child, linked}
-use Rattle.eb_arena.specs.Shape.{Tree, tip, fork, Stands, HasLeaf, HasNode, root_place}
+use Rattle.eb_arena.specs.Shape.{Tree, tip, Stands, HasLeaf, HasNode, root_place}
 use Rattle.eb_arena.specs.Way.{Step, from_left, from_right, plug}
-use Rattle.eb_arena.specs.Laws.{SameNode, SameOn}
+use Rattle.eb_arena.specs.Laws.{SameNode}
 use Rattle.eb_arena.proofs.Frame.{kept, at_set}
-use Rattle.eb_dups.proofs.Distinct.{NoShare, Distinct, part_distinct, away}
+use Rattle.eb_dups.proofs.Distinct.{part_distinct, away}
 use Rattle.eb_dups.proofs.Moves.{LinkedNode, linked_node, linked_root}
 use Rattle.eb_dups.proofs.Regrown.{plug_leaf, plug_node, SameWay, lift}
 use Rattle.eb32_core.proofs.UnlinkSteps.{step, paired, pair_near_leaf, pair_near_node, pair_far_node, pair_top, Apart, pair_apart, PairStands, pair_stands, stands_pair, StepLeads, step_leads, Rechild, rechild}
 use Rattle.eb32_core.proofs.UnlinkSpares.{Spares, spares_then, spares_less, spares_child, spares_link, spares_on, spares_way}
-use Rattle.eb32_core.proofs.UnlinkWrites.{raised, cut, CutLeaf, CutNode, Loose, loose_later}
+use Rattle.eb32_core.proofs.UnlinkWrites.{raised, cut, CutLeaf, CutNode, loose_later}
 use Rattle.eb32_core.proofs.UnlinkCut.{Hanging, Cut, Raised, raised_is}
 
 same_child : (s : Side) (a z : Parts) (i : ℕ) → SameNode a z i → child s (element_at z i) ≡ child s (element_at a i)

@@ -9,7 +9,6 @@ use Rattle.eb_arena.specs.declared.element.Element.{Element}
 use Rattle.eb_arena.specs.Links.{index_of, place_index, place_side, opposite}
 use Rattle.eb_arena.specs.Parts.{Parts, element_at, child, hung, linked}
 use Rattle.eb_arena.specs.Shape.{HasShape}
-use Rattle.eb_arena.specs.Laws.{SameLeaf}
 use Rattle.eb_dups.proofs.Moves.{hung_count}
 use Rattle.eb32_walk.specs.Ends.{IsIn}
 use Rattle.eb32_core.specs.Removal.{Unlinks}
@@ -87,12 +86,12 @@ counts_hung {a = a} {b = b} {z = z} part place s e =
     }
 
 -- the part is an element there too
-pub part_in : {a c : Parts} (part : Target) → SameCounts a c → index_of part < length a.elements → index_of part < length c.elements
-part_in {a = a} {c = c} part s f = subst (λ n. index_of part < n) (sym s.elements) f
+pub part_stays : {a c : Parts} (part : Target) → SameCounts a c → index_of part < length a.elements → index_of part < length c.elements
+part_stays {a = a} {c = c} part s f = subst (λ n. index_of part < n) (sym s.elements) f
 
 -- and the place is there
-pub place_in : {a c : Parts} (place : Place) → SameCounts a c → place_index place < length a.elements + length a.links → place_index place < length c.elements + length c.links
-place_in {a = a} {c = c} place s f =
+pub place_stays : {a c : Parts} (place : Place) → SameCounts a c → place_index place < length a.elements + length a.links → place_index place < length c.elements + length c.links
+place_stays {a = a} {c = c} place s f =
     let x : length c.elements ≡ length a.elements = s.elements in
     let y : length c.links ≡ length a.links = s.links in
     omega arith

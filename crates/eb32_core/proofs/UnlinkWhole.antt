@@ -1,5 +1,5 @@
 -- The arena without an entry's leaf and the node above it is what the contract says.
-use Rattle.std.proofs.Common.{◌≡◌, ◌≢◌, ℕ, ◌+◌, ◌<◌, ◌⊎◌, inl, inr, List, [], ◌∷◌, length, get_or, refl, sym, ap, ◌∙◌, subst, arith}
+use Rattle.std.proofs.Common.{◌≡◌, ℕ, ◌+◌, ◌<◌, ◌⊎◌, inl, inr, List, [], ◌∷◌, length, refl, sym, ap, ◌∙◌, subst, arith}
 use Rattle.std.specs.Prelude.{ℤ, Option, Some, None, IsSomeAnd}
 use Rattle.std.proofs.lemmas.Bool.{cases_eq}
 use Rattle.eb_arena.specs.declared.links.Side.{Side}
@@ -10,7 +10,7 @@ use Rattle.eb_arena.specs.declared.links.Place.{Place}
 use Rattle.eb_arena.specs.declared.links.Place.TheVariants as places
 use Rattle.eb_arena.specs.Links.{index_of, opposite}
 use Rattle.eb_arena.specs.Parts.{Parts, element_at, link_at}
-use Rattle.eb_arena.specs.Shape.{Tree, tip, fork, items_of, Stands, Split, HasLeaf, HasNode, IsRoot, root_place, InSome, Shape}
+use Rattle.eb_arena.specs.Shape.{Tree, tip, fork, items_of, Stands, HasLeaf, HasNode, IsRoot, root_place, InSome, Shape}
 use Rattle.eb_arena.specs.Way.{Step, from_left, from_right, plug}
 use Rattle.eb_arena.specs.Laws.{SameLeaf}
 use Rattle.eb_arena.proofs.Frame.{kept}
@@ -23,7 +23,6 @@ use Rattle.eb32_core.proofs.UnlinkSteps.{paired}
 use Rattle.eb32_core.proofs.UnlinkSplit.{Shrinks, shrinks}
 use Rattle.eb32_core.proofs.UnlinkItems.{others, others_are}
 use Rattle.eb32_core.proofs.UnlinkSpines.{spines_shrink}
-use Rattle.eb32_core.proofs.UnlinkWrites.{CutLeaf, CutNode}
 use Rattle.eb32_core.proofs.UnlinkCut.{Hanging, Cut}
 
 is_leaf_of : (t : Target) (i : ℕ) → (t ≡ targets.Leaf i) ⊎ (t ≡ targets.Leaf i → ⊥)
@@ -48,13 +47,18 @@ pair_nodes sides.Right e p k x b u n h = elim h [ inl y ↦ absurd (n y) | inr y
 
 -- what a root's tree has is in the trees with that on the root
 some_later : (a z : Parts) (ts : ℕ → Option Tree) (q : ℕ) (t u : Tree) (P : Tree → Type 0) → length z.links ≡ length a.links → ts q ≡ Some t → (P t → P u) → InSome a ts P → InSome z (with_tree ts q (Some u)) P
-some_later a z ts q t u P n is f s =
-    (s.0, (subst (λ m. s.0 < m) (sym n) s.1.0, elim (cases_eq s.0 q) [
+some_later a z ts q t u P n is f s = (
+  s.0,
+  (
+    subst (λ m. s.0 < m) (sym n) s.1.0,
+    elim (cases_eq s.0 q) [
       | inl e ↦
           let x : IsSomeAnd (Some t) P = subst (λ y. IsSomeAnd y P) (ap ts e ∙ is) s.1.1 in
           subst (λ y. IsSomeAnd (with_tree ts q (Some u) y) P) (sym e) (subst (λ y. IsSomeAnd y P) (sym (tree_at ts q (Some u))) (f x))
       | inr o ↦ subst (λ y. IsSomeAnd y P) (sym (tree_other ts q s.0 (Some u) o)) s.1.1
-    ]))
+    ],
+  ),
+)
 
 here : (z : Parts) (ts : ℕ → Option Tree) (q : ℕ) (u : Tree) (P : Tree → Type 0) → q < length z.links → P u → InSome z (with_tree ts q (Some u)) P
 here z ts q u P f h = (q, (f, subst (λ y. IsSomeAnd y P) (sym (tree_at ts q (Some u))) h))
