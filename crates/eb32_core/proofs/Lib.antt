@@ -3,3 +3,9 @@ pub mod Plants
 pub mod First
 pub mod Placing
 pub mod Groves
+pub mod ReplaceHeld
+pub mod ReplaceWrites
+pub mod ReplaceNames
+pub mod ReplaceTrees
+pub mod ReplaceShape
+pub mod UprootClear
