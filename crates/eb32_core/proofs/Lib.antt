@@ -9,3 +9,4 @@ pub mod ReplaceNames
 pub mod ReplaceTrees
 pub mod ReplaceShape
 pub mod UprootClear
+pub mod UprootShape

@@ -21,9 +21,13 @@ rehung a e h = hung (hung (hung a (element_at a e).left (places.Under h sides.Le
 abbrev pub heir_element : Parts → ℕ → ℕ → Element
 heir_element a e h = record (element_at (rehung a e h) h) { left = (element_at a e).left; right = (element_at a e).right; node_p = (element_at a e).node_p; bit = (element_at a e).bit }
 
--- the whole change
+-- it is written
+abbrev pub moved : Parts → ℕ → ℕ → Parts
+moved a e h = with_element (rehung a e h) h (heir_element a e h)
+
+-- the link down to the node is written, which is the whole change
 abbrev pub replaced : Parts → ℕ → ℕ → Parts
-replaced a e h = linked (with_element (rehung a e h) h (heir_element a e h)) (element_at a e).node_p (targets.Node h)
+replaced a e h = linked (moved a e h) (element_at a e).node_p (targets.Node h)
 
 -- what it asks of the arena
 pub record Replaceable (a : Parts) (e h : ℕ) : Type 0 where
@@ -158,23 +162,27 @@ replacing a e h r =
     }
 
 -- the arena before the link down, step by step
-pub written : (a b c d w : Parts) (e h : ℕ) (n el : Element) (p o : Place) (t : Target) → n ≡ element_at a e → p ≡ places.Under h sides.Left → b ≡ hung a n.left p → o ≡ places.Under h sides.Right → c ≡ hung b n.right o → t ≡ targets.Node e → d ≡ hung c t places.Nowhere → el ≡ element_at d h → w ≡ with_element d h (record el { left = n.left; right = n.right; node_p = n.node_p; bit = n.bit }) → w ≡ with_element (rehung a e h) h (heir_element a e h)
+pub written : (a b c d w : Parts) (e h : ℕ) (n el : Element) (p o : Place) (t : Target) → n ≡ element_at a e → p ≡ places.Under h sides.Left → b ≡ hung a n.left p → o ≡ places.Under h sides.Right → c ≡ hung b n.right o → t ≡ targets.Node e → d ≡ hung c t places.Nowhere → el ≡ element_at d h → w ≡ with_element d h (record el { left = n.left; right = n.right; node_p = n.node_p; bit = n.bit }) → w ≡ moved a e h
 written a b c d w e h n el p o t hn hp hb ho hc ht hd he hw =
     let m : Element = element_at a e in
-    let eb : b ≡ hung a m.left (places.Under h sides.Left) = hb ∙ (ap (λ x. hung a x.left p) hn ∙ ap (hung a m.left) hp) in
-    let ec : c ≡ hung (hung a m.left (places.Under h sides.Left)) m.right (places.Under h sides.Right) = hc ∙ (ap (λ x. hung x n.right o) eb ∙ (ap (λ x. hung (hung a m.left (places.Under h sides.Left)) x.right o) hn ∙ ap (hung (hung a m.left (places.Under h sides.Left)) m.right) ho)) in
+    let left : Parts = hung a m.left (places.Under h sides.Left) in
+    let eb : b ≡ left = hb ∙ (ap (λ x. hung a x.left p) hn ∙ ap (hung a m.left) hp) in
+    let ec : c ≡ hung left m.right (places.Under h sides.Right) = hc ∙ (ap (λ x. hung x n.right o) eb ∙ (ap (λ x. hung left x.right o) hn ∙ ap (hung left m.right) ho)) in
     let ed : d ≡ rehung a e h = hd ∙ (ap (λ x. hung c x places.Nowhere) ht ∙ ap (λ x. hung x (targets.Node e) places.Nowhere) ec) in
     let ee : el ≡ element_at (rehung a e h) h = he ∙ ap (λ x. element_at x h) ed in
-    hw ∙ (ap (λ x. with_element x h (record el { left = n.left; right = n.right; node_p = n.node_p; bit = n.bit })) ed ∙ (ap (λ x. with_element (rehung a e h) h (record x { left = n.left; right = n.right; node_p = n.node_p; bit = n.bit })) ee ∙ ap (λ x. with_element (rehung a e h) h (record (element_at (rehung a e h) h) { left = x.left; right = x.right; node_p = x.node_p; bit = x.bit })) hn))
+    let put : Element → Element → Element = λ x y. record x { left = y.left; right = y.right; node_p = y.node_p; bit = y.bit } in
+    hw ∙ (ap (λ x. with_element x h (put el n)) ed ∙ (ap (λ x. with_element (rehung a e h) h (put x n)) ee ∙ ap (λ x. with_element (rehung a e h) h (put (element_at (rehung a e h) h) x)) hn))
 
-pub written_count : (a : Parts) (e h : ℕ) → Replaceable a e h → place_index (element_at a e).node_p < length (with_element (rehung a e h) h (heir_element a e h)).elements + length (rehung a e h).links
-written_count a e h r =
+-- the place of the node exists in it
+pub written_place : (a b c d w : Parts) (e h : ℕ) (n el : Element) (p o : Place) (t : Target) → Replaceable a e h → n ≡ element_at a e → p ≡ places.Under h sides.Left → b ≡ hung a n.left p → o ≡ places.Under h sides.Right → c ≡ hung b n.right o → t ≡ targets.Node e → d ≡ hung c t places.Nowhere → el ≡ element_at d h → w ≡ with_element d h (record el { left = n.left; right = n.right; node_p = n.node_p; bit = n.bit }) → place_index n.node_p < length w.elements + length w.links
+written_place a b c d w e h n el p o t r hn hp hb ho hc ht hd he hw =
+    let is : w ≡ moved a e h = written a b c d w e h n el p o t hn hp hb ho hc ht hd he hw in
     let up : Rehung a (rehung a e h) e h = rehung_is a e h r in
-    let n : length (with_element (rehung a e h) h (heir_element a e h)).elements ≡ length a.elements = length-set (rehung a e h).elements h (heir_element a e h) ∙ up.down.count in
-    subst (λ x. place_index (element_at a e).node_p < x + length (rehung a e h).links) (sym n) (subst (λ x. place_index (element_at a e).node_p < length a.elements + length x) (sym up.down.links) r.place_exists)
+    let count : length (moved a e h).elements ≡ length a.elements = length-set (rehung a e h).elements h (heir_element a e h) ∙ up.down.count in
+    let f : place_index (element_at a e).node_p < length w.elements + length w.links = subst (λ x. place_index (element_at a e).node_p < length x.elements + length x.links) (sym is) (subst (λ x. place_index (element_at a e).node_p < x + length (rehung a e h).links) (sym count) (subst (λ x. place_index (element_at a e).node_p < length a.elements + length x) (sym up.down.links) r.place_exists)) in
+    subst (λ x. place_index x.node_p < length w.elements + length w.links) (sym hn) f
 
 -- and after it
-pub linked_is : (a w : Parts) (e h : ℕ) (n : Element) (t : Target) → n ≡ element_at a e → t ≡ targets.Node h → w ≡ with_element (rehung a e h) h (heir_element a e h) → linked w n.node_p t ≡ replaced a e h
+pub linked_is : (a w : Parts) (e h : ℕ) (n : Element) (t : Target) → n ≡ element_at a e → t ≡ targets.Node h → w ≡ moved a e h → linked w n.node_p t ≡ replaced a e h
 linked_is a w e h n t hn ht hw =
-    let d : Parts = with_element (rehung a e h) h (heir_element a e h) in
-    ap (λ x. linked x n.node_p t) hw ∙ (ap (λ x. linked d x.node_p t) hn ∙ ap (linked d (element_at a e).node_p) ht)
+    ap (λ x. linked x n.node_p t) hw ∙ (ap (λ x. linked (moved a e h) x.node_p t) hn ∙ ap (linked (moved a e h) (element_at a e).node_p) ht)

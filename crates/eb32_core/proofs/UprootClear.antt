@@ -5,6 +5,7 @@ use Rattle.std.proofs.lemmas.Bool.{cases_eq}
 use Rattle.std.proofs.lemmas.List.{length-set, get_or-set_same, get_or-set_other}
 use Rattle.sched_base.specs.KeyedList.{KeyedItem, is_entry}
 use Rattle.eb_arena.specs.declared.links.Side.TheVariants as sides
+use Rattle.eb_arena.specs.declared.links.Target.{Target}
 use Rattle.eb_arena.specs.declared.links.Target.TheVariants as targets
 use Rattle.eb_arena.specs.declared.links.Place.{Place}
 use Rattle.eb_arena.specs.declared.links.Place.TheVariants as places
@@ -19,7 +20,7 @@ use Rattle.eb_arena.proofs.Frame.{kept, at_set, at_other}
 use Rattle.eb32_walk.specs.Ends.{IsIn}
 use Rattle.eb_dups.specs.Grown.{with_tree}
 use Rattle.eb_dups.proofs.Distinct.{NoShare, roots_apart}
-use Rattle.eb_dups.proofs.Moves.{hung_leaf, hung_node}
+use Rattle.eb_dups.proofs.Moves.{hung_leaf, hung_node, hung_count}
 use Rattle.eb_dups.proofs.Regrown.{tree_at, tree_other}
 use Rattle.eb_dups.proofs.Ending.{place_bound}
 use Rattle.eb32_core.specs.Planted.{SpinesIn}
@@ -141,7 +142,19 @@ bound_at a q e (Some t) r s f =
     let w : LeafWay a q t e = leaf_way a q t [] _ _ e r.0 refl s in
     place_bound a q (element_at a e).leaf_p w.way w.leads f
 
-pub leaf_bound : (a : Parts) (e : ℕ) → HasShape a → IsIn a e → place_index (element_at a e).leaf_p < length a.elements + length a.links
+leaf_bound : (a : Parts) (e : ℕ) → HasShape a → IsIn a e → place_index (element_at a e).leaf_p < length a.elements + length a.links
 leaf_bound a e h i =
     let s : InSome a h.0 (HasLeaf e) = h.1.leaves e i.0 i.1 in
     bound_at a s.0 e (h.0 s.0) (h.1.roots s.0 s.1.0) s.1.1 s.1.0
+
+pub place_exists : (a b : Parts) (e : ℕ) (n : Element) (t : Target) → HasShape a → IsIn a e → n ≡ element_at a e → b ≡ hung a t places.Nowhere → place_index n.leaf_p < length b.elements + length b.links
+place_exists a b e n t h i hn hb =
+    let c : length b.elements ≡ length a.elements = ap (λ m. length m.elements) hb ∙ (hung_count a t places.Nowhere).0 in
+    let l : length b.links ≡ length a.links = ap (λ m. length m.links) hb ∙ ap length (hung_count a t places.Nowhere).1 in
+    let f : place_index n.leaf_p < length a.elements + length a.links = subst (λ m. place_index m.leaf_p < length a.elements + length a.links) (sym hn) (leaf_bound a e h i) in
+    omega (arith, c, l, f)
+
+-- the writes, step by step
+pub cleared_by : (a b z : Parts) (e : ℕ) (n : Element) (t : Target) → n ≡ element_at a e → t ≡ targets.Leaf e → b ≡ hung a t places.Nowhere → z ≡ linked b n.leaf_p targets.Nothing → z ≡ cleared a e
+cleared_by a b z e n t hn ht hb hz =
+    hz ∙ (ap (λ m. linked m n.leaf_p targets.Nothing) (hb ∙ ap (λ m. hung a m places.Nowhere) ht) ∙ ap (λ m. linked (hung a (targets.Leaf e) places.Nowhere) m.leaf_p targets.Nothing) hn)

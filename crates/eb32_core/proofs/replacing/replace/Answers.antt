@@ -1,13 +1,8 @@
-use Rattle.std.proofs.Common.{◌≡◌, ◌+◌, ◌<◌, length, sym, ap, ◌∙◌, subst}
-use Rattle.eb_arena.specs.declared.links.Side.TheVariants as sides
-use Rattle.eb_arena.specs.declared.links.Place.TheVariants as places
-use Rattle.eb_arena.specs.declared.links.Target.TheVariants as targets
-use Rattle.eb_arena.specs.declared.element.Element.{Element}
-use Rattle.eb_arena.specs.Links.{index_of, place_index}
-use Rattle.eb_arena.specs.Parts.{Parts, element_at, with_element, linked}
+use Rattle.std.proofs.Common.{◌≡◌, ◌<◌, length, sym, ap, ◌∙◌, subst}
+use Rattle.eb_arena.specs.Links.{index_of}
 use Rattle.eb_dups.proofs.Moves.{hung_count}
 use Rattle.eb32_core.specs.Removal.{Replaces}
-use Rattle.eb32_core.proofs.ReplaceWrites.{Replaceable, rehung, heir_element, replaced, written, written_count, linked_is}
+use Rattle.eb32_core.proofs.ReplaceWrites.{moved, replaced, written, written_place, linked_is}
 use Rattle.eb32_core.proofs.ReplaceShape.{may_replaceable, replaces}
 use Rattle.eb32_core.proofs.replacing.replace.Goals as goal
 
@@ -28,13 +23,10 @@ hang-requires-2-clause-exists g c =
 
 pub put_link-requires-clause-exists : goal.put_link-requires-clause-exists
 put_link-requires-clause-exists g c =
-    let a : Parts = c.args.arena.now in
-    let w : c.set.new.self ≡ with_element (rehung a c.args.entry c.args.heir) c.args.heir (heir_element a c.args.entry c.args.heir) = written a c.hang.new.self c.hang-2.new.self c.hang-3.new.self c.set.new.self c.args.entry c.args.heir c.element-node.result c.element-own.result c.new.result c.new-2.result c.node.result c.element-node.ensures c.new.ensures c.hang.ensures c.new-2.ensures c.hang-2.ensures c.node.ensures c.hang-3.ensures c.element-own.ensures c.set.ensures in
-    subst (λ m. place_index c.element-node.result.node_p < length m.elements + length m.links) (sym w) (subst (λ m. place_index m.node_p < length (with_element (rehung a c.args.entry c.args.heir) c.args.heir (heir_element a c.args.entry c.args.heir)).elements + length (rehung a c.args.entry c.args.heir).links) (sym c.element-node.ensures) (written_count a c.args.entry c.args.heir (may_replaceable a c.args.entry c.args.heir c.requires.may c.requires.used)))
+    written_place c.args.arena.now _ _ _ c.set.new.self c.args.entry c.args.heir c.element-node.result c.element-own.result _ _ _ (may_replaceable _ _ _ c.requires.may c.requires.used) c.element-node.ensures c.new.ensures c.hang.ensures c.new-2.ensures c.hang-2.ensures c.node.ensures c.hang-3.ensures c.element-own.ensures c.set.ensures
 
 pub returns : goal.returns
 returns g c =
-    let a : Parts = c.args.arena.now in
-    let w : c.set.new.self ≡ with_element (rehung a c.args.entry c.args.heir) c.args.heir (heir_element a c.args.entry c.args.heir) = written a c.hang.new.self c.hang-2.new.self c.hang-3.new.self c.set.new.self c.args.entry c.args.heir c.element-node.result c.element-own.result c.new.result c.new-2.result c.node.result c.element-node.ensures c.new.ensures c.hang.ensures c.new-2.ensures c.hang-2.ensures c.node.ensures c.hang-3.ensures c.element-own.ensures c.set.ensures in
-    let e : c.put_link.new.self ≡ replaced a c.args.entry c.args.heir = c.put_link.ensures ∙ linked_is a c.set.new.self c.args.entry c.args.heir c.element-node.result c.node-2.result c.element-node.ensures c.node-2.ensures w in
-    subst (λ z. Replaces a z c.args.entry c.args.heir) (sym e) (replaces a c.args.entry c.args.heir c.requires.used)
+    let w : c.set.new.self ≡ moved c.args.arena.now c.args.entry c.args.heir = written c.args.arena.now _ _ _ c.set.new.self c.args.entry c.args.heir c.element-node.result c.element-own.result _ _ _ c.element-node.ensures c.new.ensures c.hang.ensures c.new-2.ensures c.hang-2.ensures c.node.ensures c.hang-3.ensures c.element-own.ensures c.set.ensures in
+    let e : c.put_link.new.self ≡ replaced c.args.arena.now c.args.entry c.args.heir = c.put_link.ensures ∙ linked_is c.args.arena.now _ c.args.entry c.args.heir _ _ c.element-node.ensures c.node-2.ensures w in
+    subst (λ z. Replaces c.args.arena.now z c.args.entry c.args.heir) (sym e) (replaces c.args.arena.now c.args.entry c.args.heir c.requires.used)
