@@ -12,9 +12,8 @@ use Rattle.eb_arena.specs.declared.links.Place.TheVariants as places
 use Rattle.eb_arena.specs.declared.element.Element.{Element}
 use Rattle.eb_arena.specs.Links.{index_of, place_index, place_side}
 use Rattle.eb_arena.specs.Parts.{Parts, element_at, link_at, child, up_of, with_element, with_link, with_child, hung, linked}
-use Rattle.eb_arena.specs.Laws.{SameLeaf, SameNode}
 use Rattle.eb_arena.proofs.Frame.{at_set, at_other}
-use Rattle.eb_dups.proofs.Moves.{hung_leaf, hung_node, hung_count, LinkedNode, linked_node}
+use Rattle.eb_dups.proofs.Moves.{hung_leaf, hung_node, LinkedNode, linked_node}
 
 -- what hangs at a place, which is at a node or on a root
 abbrev pub held : Parts → Place → Target

@@ -9,7 +9,7 @@ use Rattle.eb_arena.specs.declared.links.Place.{Place}
 use Rattle.eb_arena.specs.declared.links.Place.TheVariants as places
 use Rattle.eb_arena.specs.Links.{index_of, place_index}
 use Rattle.eb_arena.specs.Parts.{Parts, element_at, link_at, up_of}
-use Rattle.eb_arena.specs.Shape.{Tree, tip, fork, Stands, Split, HasLeaf, HasNode, IsRoot, root_place, Shape, InSome}
+use Rattle.eb_arena.specs.Shape.{Tree, tip, fork, Stands, HasLeaf, HasNode, IsRoot, root_place, Shape, InSome}
 use Rattle.eb_arena.specs.Way.{Step, from_left, from_right, Leads}
 use Rattle.eb_arena.specs.Laws.{NodeTells}
 use Rattle.eb_arena.proofs.Ways.{LeafWay, leaf_way}
@@ -19,7 +19,7 @@ use Rattle.eb_dups.specs.Grown.{with_tree}
 use Rattle.eb_dups.proofs.Distinct.{node_leaf}
 use Rattle.eb_dups.proofs.Regrown.{top_node, tree_at, tree_other}
 use Rattle.eb_dups.proofs.Ending.{up_of_is, place_bound}
-use Rattle.eb32_core.specs.Removal.{renamed, IsLoose, MayReplace, Replaced, Replaces}
+use Rattle.eb32_core.specs.Removal.{renamed, IsLoose, MayReplace, Replaces}
 use Rattle.eb32_core.proofs.ReplaceHeld.{held, held_node}
 use Rattle.eb32_core.proofs.ReplaceWrites.{Replaceable, Replacing, replaced, replacing}
 use Rattle.eb32_core.proofs.ReplaceNames.{renamed_target, renamed_leaf, renamed_node, renamed_heir, renamed_none}

@@ -7,7 +7,7 @@ use Rattle.eb_arena.specs.declared.links.Target.{Target}
 use Rattle.eb_arena.specs.declared.links.Target.TheVariants as targets
 use Rattle.eb_arena.specs.declared.links.Place.{Place}
 use Rattle.eb_arena.specs.declared.links.Place.TheVariants as places
-use Rattle.eb_arena.specs.Links.{index_of, place_index, place_side}
+use Rattle.eb_arena.specs.Links.{index_of, place_index}
 use Rattle.eb_arena.specs.Parts.{Parts, element_at, link_at, child, up_of}
 use Rattle.eb_arena.specs.Shape.{Tree, tip, fork, Stands, root_place}
 use Rattle.eb_dups.proofs.Ending.{up_of_is}

@@ -7,12 +7,11 @@ use Rattle.sched_base.specs.KeyedList.{KeyedItem, is_entry}
 use Rattle.eb_arena.specs.declared.links.Side.TheVariants as sides
 use Rattle.eb_arena.specs.declared.links.Target.{Target}
 use Rattle.eb_arena.specs.declared.links.Target.TheVariants as targets
-use Rattle.eb_arena.specs.declared.links.Place.{Place}
 use Rattle.eb_arena.specs.declared.links.Place.TheVariants as places
 use Rattle.eb_arena.specs.declared.element.Element.{Element}
 use Rattle.eb_arena.specs.Links.{index_of, place_index}
 use Rattle.eb_arena.specs.Parts.{Parts, element_at, link_at, with_link, hung, linked}
-use Rattle.eb_arena.specs.Shape.{Tree, tip, fork, items_of, Stands, Split, HasLeaf, HasNode, IsRoot, root_place, Shape, HasShape, InSome}
+use Rattle.eb_arena.specs.Shape.{Tree, tip, fork, items_of, Stands, HasLeaf, HasNode, IsRoot, root_place, Shape, HasShape, InSome}
 use Rattle.eb_arena.specs.Way.{Step, from_left, from_right, plug, Leads}
 use Rattle.eb_arena.specs.Laws.{SameLeaf, SameNode, SameOn}
 use Rattle.eb_arena.proofs.Ways.{LeafWay, leaf_way}
@@ -23,7 +22,6 @@ use Rattle.eb_dups.proofs.Distinct.{NoShare, roots_apart}
 use Rattle.eb_dups.proofs.Moves.{hung_leaf, hung_node, hung_count}
 use Rattle.eb_dups.proofs.Regrown.{tree_at, tree_other}
 use Rattle.eb_dups.proofs.Ending.{place_bound}
-use Rattle.eb32_core.specs.Planted.{SpinesIn}
 use Rattle.eb32_core.specs.Removal.{Uprooted, Uproots}
 use Rattle.eb32_core.proofs.ReplaceHeld.{on_root}
 

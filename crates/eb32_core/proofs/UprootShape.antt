@@ -1,5 +1,5 @@
 -- The list of a root after its entry was taken out.
-use Rattle.std.proofs.Common.{◌≡◌, ℕ, ◌<◌, inl, inr, Bool, true, false, cond, [], length, refl, sym, ap, ◌∙◌, subst}
+use Rattle.std.proofs.Common.{◌≡◌, ℕ, inl, inr, Bool, true, false, cond, [], refl, sym, ◌∙◌, subst}
 use Rattle.std.specs.Prelude.{◌==◌, Option, Some, IsSomeAnd}
 use Rattle.std.proofs.lemmas.Bool.{cases_eq}
 use Rattle.eb_arena.specs.declared.links.Place.{Place}
