@@ -15,3 +15,10 @@ pub mod UnlinkFoot
 pub mod UnlinkWhole
 pub mod UnlinkEntry
 pub mod UnlinkReads
+pub mod ReplaceHeld
+pub mod ReplaceWrites
+pub mod ReplaceNames
+pub mod ReplaceTrees
+pub mod ReplaceShape
+pub mod UprootClear
+pub mod UprootShape

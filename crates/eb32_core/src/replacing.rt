@@ -21,11 +21,10 @@ pub(crate) fn replace<L: Ledger>(arena: &mut Arena, entry: u32, heir: u32, steps
     arena.hang(node.left, Up::new(heir, Side::Left));
     arena.hang(node.right, Up::new(heir, Side::Right));
     arena.hang(Link::node(entry), Up::NONE);
-    let mut element = arena.element(heir);
-    element.left = node.left;
-    element.right = node.right;
-    element.node_p = node.node_p;
-    element.bit = node.bit;
+    let mut element = node;
+    let own = arena.element(heir);
+    element.leaf_p = own.leaf_p;
+    element.key = own.key;
     arena.set(heir, element);
     arena.put_link(node.node_p, Link::node(heir));
     for _ in 0..4u32 {
