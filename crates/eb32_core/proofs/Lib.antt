@@ -1,3 +1,4 @@
+pub mod HighestBit
 pub mod Landings
 pub mod Plants
 pub mod First
