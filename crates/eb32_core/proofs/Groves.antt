@@ -43,7 +43,7 @@ key_on a e key (fork i b l r) f h = (
   key_on a e key r f (record { leaf = λ y. h.leaf (inr y); node = λ y. h.node (inr (inr y)) }),
 )
 
-key_leaf : (a : Parts) (e key x : ℕ) → e < length a.elements → (element_at (keyed a e key) x).leaf_p ≡ (element_at a x).leaf_p
+pub key_leaf : (a : Parts) (e key x : ℕ) → e < length a.elements → (element_at (keyed a e key) x).leaf_p ≡ (element_at a x).leaf_p
 key_leaf a e key x f =
     let d : Element = record (element_at a e) { key = key } in
     elim (cases_eq x e) [
@@ -69,11 +69,11 @@ key_shape a ts e key h f n =
       nodes = λ i g m. h.nodes i (subst (λ y. i < y) c g) (λ y. m ((key_node a e key i f).node_p ∙ y));
     }
 
-lists-length : (a : Parts) (q : ℕ) (ms : List ℕ) → length (lists_from a q ms) ≡ length ms
+pub lists-length : (a : Parts) (q : ℕ) (ms : List ℕ) → length (lists_from a q ms) ≡ length ms
 lists-length a q [] = refl
 lists-length a q (m ∷ ms) = ap suc (lists-length a (suc q) ms)
 
-lists-get : (a : Parts) (q : ℕ) (ms : List ℕ) (i : ℕ) → i < length ms → get_or (lists_from a q ms) i blank ≡ record { items = list_of a (q + i); insertions = get_or ms i 0 }
+pub lists-get : (a : Parts) (q : ℕ) (ms : List ℕ) (i : ℕ) → i < length ms → get_or (lists_from a q ms) i blank ≡ record { items = list_of a (q + i); insertions = get_or ms i 0 }
 lists-get a q [] i h = absurd (omega arith)
 lists-get a q (m ∷ ms) zero h = let e : q ≡ q + 0 = omega arith in ap (λ n. let l : KeyedList = record { items = list_of a n; insertions = m } in l) e
 lists-get a q (m ∷ ms) (suc i) h =

@@ -3,3 +3,5 @@ pub mod Plants
 pub mod First
 pub mod Placing
 pub mod Groves
+pub mod Standing
+pub mod Upward

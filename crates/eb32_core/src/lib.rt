@@ -6,6 +6,7 @@ mod forest;
 mod planting;
 mod removal;
 mod replacing;
+mod roots;
 #[cfg(test)]
 mod tests;
 mod unlinking;
