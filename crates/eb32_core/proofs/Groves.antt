@@ -87,7 +87,7 @@ lists-same a z q (m ∷ ms) h =
     let f : list_of z q ≡ list_of a q = subst (λ n. list_of z n ≡ list_of a n) e (h 0 (omega arith)) in
     ap (λ l. let x : KeyedList = record { items = l; insertions = m } in x ∷ lists_from z (suc q) ms) f ∙ ap (λ l. let x : KeyedList = record { items = list_of a q; insertions = m } in x ∷ l) (lists-same a z (suc q) ms (λ i g. let s : q + suc i ≡ suc q + i = omega arith in subst (λ n. list_of z n ≡ list_of a n) s (h (suc i) (omega arith))))
 
-lists-set : (a z : Parts) (q : ℕ) (ms : List ℕ) (r m : ℕ) (l : List KeyedItem) → r < length ms → list_of z (q + r) ≡ l → ((i : ℕ) → i < length ms → (i ≡ r → ⊥) → list_of z (q + i) ≡ list_of a (q + i)) → lists_from z q (set ms r m) ≡ set (lists_from a q ms) r (record { items = l; insertions = m })
+pub lists-set : (a z : Parts) (q : ℕ) (ms : List ℕ) (r m : ℕ) (l : List KeyedItem) → r < length ms → list_of z (q + r) ≡ l → ((i : ℕ) → i < length ms → (i ≡ r → ⊥) → list_of z (q + i) ≡ list_of a (q + i)) → lists_from z q (set ms r m) ≡ set (lists_from a q ms) r (record { items = l; insertions = m })
 lists-set a z q [] r m l f e h = absurd (omega arith)
 lists-set a z q (x ∷ ms) zero m l f e h =
     let s : q + 0 ≡ q = omega arith in

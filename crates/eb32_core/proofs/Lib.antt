@@ -5,3 +5,4 @@ pub mod Placing
 pub mod Groves
 pub mod Standing
 pub mod Upward
+pub mod Leaving

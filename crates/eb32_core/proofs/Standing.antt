@@ -105,7 +105,7 @@ stood f q e s h =
     record { exists = x; held = sym (ap (list_any (is_entry e)) (items_are f q s x)) ∙ h.held }
 
 -- an entry that stands in a root is in a tree
-leaf_at : (a : Parts) (q e : ℕ) (o : Option Tree) → IsRoot a q o → list_any (is_entry e) (list_of a q) ≡ true → IsSomeAnd o (HasLeaf e)
+pub leaf_at : (a : Parts) (q e : ℕ) (o : Option Tree) → IsRoot a q o → list_any (is_entry e) (list_of a q) ≡ true → IsSomeAnd o (HasLeaf e)
 leaf_at a q e None r h = absurd (false≢true (ap (list_any (is_entry e)) (sym (list_of_is a q None r)) ∙ h))
 leaf_at a q e (Some t) r h = held_leaf e t (ap (list_any (is_entry e)) (sym (list_of_is a q (Some t) r)) ∙ h)
 
