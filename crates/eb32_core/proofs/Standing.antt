@@ -82,10 +82,16 @@ tended f t = record { counts = t.counts; shape = (t.trees, t.shape) }
 pub roots_counted : (f : Grove) → Stood f → length (seen_of f).roots ≡ length f.parts.links
 roots_counted f s = lists-length f.parts 0 f.made ∙ s.counts
 
+pub root_fits : (f : Grove) (q : ℕ) → Stood f → q < length (seen_of f).roots → q < length f.parts.links
+root_fits f q s h = subst (λ n. q < n) (roots_counted f s) h
+
 pub root_is : (f : Grove) (q : ℕ) → Stood f → q < length f.parts.links → root_at q (seen_of f) ≡ record { items = list_of f.parts q; insertions = slice_index f.made q }
 root_is f q s h =
     let e : 0 + q ≡ q = omega arith in
     lists-get f.parts 0 f.made q (subst (λ n. q < n) (sym s.counts) h) ∙ ap (λ n. let l : KeyedList = record { items = list_of f.parts n; insertions = slice_index f.made q } in l) e
+
+pub made_is : (f : Grove) (q : ℕ) → Stood f → q < length (seen_of f).roots → (root_at q (seen_of f)).insertions ≡ slice_index f.made q
+made_is f q s h = ap (λ (l : KeyedList). l.insertions) (root_is f q s (root_fits f q s h))
 
 pub items_are : (f : Grove) (q : ℕ) → Stood f → q < length f.parts.links → (root_at q (seen_of f)).items ≡ list_of f.parts q
 items_are f q s h = ap (λ (l : KeyedList). l.items) (root_is f q s h)
@@ -101,7 +107,7 @@ pub record Held (f : Grove) (q e : ℕ) : Type 0 where
 
 pub stood : (f : Grove) (q e : ℕ) → Stood f → StandsIn q e (seen_of f) → Held f q e
 stood f q e s h =
-    let x : q < length f.parts.links = subst (λ n. q < n) (roots_counted f s) h.exists in
+    let x : q < length f.parts.links = root_fits f q s h.exists in
     record { exists = x; held = sym (ap (list_any (is_entry e)) (items_are f q s x)) ∙ h.held }
 
 -- an entry that stands in a root is in a tree
@@ -182,8 +188,8 @@ key_is f e k s h q g =
 
 -- what the walks answer of a root is what the keyed list answers
 pub first_is : (f : Grove) (q : ℕ) (result : Option ℕ) → Stood f → q < length (seen_of f).roots → result ≡ first_entry (list_of f.parts q) → result ≡ first_entry (root_at q (seen_of f)).items
-first_is f q result s h g = g ∙ sym (ap first_entry (items_are f q s (subst (λ n. q < n) (roots_counted f s) h)))
+first_is f q result s h g = g ∙ sym (ap first_entry (items_are f q s (root_fits f q s h)))
 
 pub from_is : (f : Grove) (q key : ℕ) (result : Option ℕ) → Stood f → q < length (seen_of f).roots → result ≡ first_entry (filter (λ x. nat_le key x.key) (list_of f.parts q)) → result ≡ entry_from key (root_at q (seen_of f)).items
 from_is f q key result s h g =
-    g ∙ (from_found key (list_of f.parts q) ∙ sym (ap (entry_from key) (items_are f q s (subst (λ n. q < n) (roots_counted f s) h))))
+    g ∙ (from_found key (list_of f.parts q) ∙ sym (ap (entry_from key) (items_are f q s (root_fits f q s h))))

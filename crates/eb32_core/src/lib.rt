@@ -3,6 +3,7 @@
 
 mod descent;
 mod forest;
+mod keyed;
 mod planting;
 mod removal;
 mod replacing;
