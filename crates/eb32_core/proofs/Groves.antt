@@ -112,6 +112,7 @@ spines_rise : (m : ℕ) (o : Option Tree) (t : Tree) → Spines (m + 1) t → o 
 spines_rise m o t s e = subst (SpinesIn (m + 1)) (sym e) s
 
 pub inserted_grove : (f : Grove) (z : Parts) (root entry key : ℕ) → IsTended f → root < length f.parts.links → entry < length f.parts.elements → (element_at f.parts entry).leaf_p ≡ places.Nowhere → Plants (keyed f.parts entry key) z root entry → Inserted f (record { parts = z; made = set f.made root (slice_index f.made root + 1) }) root entry key
+unfolding seen_of
 inserted_grove f z root entry key t r e n pl =
     let a : Parts = f.parts in
     let k : Parts = keyed a entry key in

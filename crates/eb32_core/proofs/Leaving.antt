@@ -41,6 +41,7 @@ left_tended f z e t h up =
 
 -- and stands for the lists without the entry
 pub left_seen : (f : Grove) (z : Parts) (e : ℕ) → IsTended f → Uproots f.parts z e → (q : ℕ) → StandsIn q e (seen_of f) → seen_of (record { parts = z; made = f.made }) ≡ deleted_from q e (seen_of f)
+unfolding seen_of
 left_seen f z e t up q h =
     let a : Parts = f.parts in
     let m : ℕ = slice_index f.made q in

@@ -2,10 +2,10 @@
 use Rattle.std.proofs.Common.{◌≡◌, ℕ, ◌+◌, ◌<◌, inl, inr, Bool, true, false, eqb, List, [], ◌∷◌, ◌++◌, length, refl, sym, ap, ◌∙◌, subst, arith, eq-eqb, eqb-true}
 use Rattle.std.specs.Prelude.{◌||◌, Option, Some, None, IsSomeAnd, slice_index, nat_le}
 use Rattle.std.specs.List.{filter, find, list_any}
-use Rattle.std.specs.Option.{option_map}
+use Rattle.std.specs.Option.{option_map, is_some}
 use Rattle.std.proofs.lemmas.Bool.{cases_Bool, or_parts, false≢true}
 use Rattle.std.proofs.lemmas.List.Folds.{list_any-append}
-use Rattle.sched_base.specs.KeyedList.{KeyedItem, KeyedList, root_at, is_entry, first_entry, next_entry, entry_from, key_of_entry, StandsIn, IsPlaced, IsFree}
+use Rattle.sched_base.specs.KeyedList.{KeyedItem, KeyedList, KeyedRoots, root_at, is_entry, holds, first_entry, next_entry, entry_from, key_of_entry, StandsIn, IsPlaced, IsFree}
 use Rattle.eb_arena.specs.declared.links.Place.{Place}
 use Rattle.eb_arena.specs.declared.links.Place.TheVariants as places
 use Rattle.eb_arena.specs.Links.{is_nowhere}
@@ -80,12 +80,24 @@ pub tended : (f : Grove) → IsTended f → Stood f
 tended f t = record { counts = t.counts; shape = (t.trees, t.shape) }
 
 pub roots_counted : (f : Grove) → Stood f → length (seen_of f).roots ≡ length f.parts.links
+unfolding seen_of
 roots_counted f s = lists-length f.parts 0 f.made ∙ s.counts
+
+pub entries_are : (f : Grove) → (seen_of f).entries ≡ length f.parts.elements
+unfolding seen_of
+entries_are f = refl
 
 pub root_fits : (f : Grove) (q : ℕ) → Stood f → q < length (seen_of f).roots → q < length f.parts.links
 root_fits f q s h = subst (λ n. q < n) (roots_counted f s) h
 
+pub root_seen : (f : Grove) (q : ℕ) → Stood f → q < length f.parts.links → q < length (seen_of f).roots
+root_seen f q s h = subst (λ n. q < n) (sym (roots_counted f s)) h
+
+pub root_counted : (f : Grove) (q n : ℕ) → Stood f → n ≡ length f.parts.links → q < n → q < length (seen_of f).roots
+root_counted f q n s e h = root_seen f q s (subst (λ m. q < m) e h)
+
 pub root_is : (f : Grove) (q : ℕ) → Stood f → q < length f.parts.links → root_at q (seen_of f) ≡ record { items = list_of f.parts q; insertions = slice_index f.made q }
+unfolding seen_of
 root_is f q s h =
     let e : 0 + q ≡ q = omega arith in
     lists-get f.parts 0 f.made q (subst (λ n. q < n) (sym s.counts) h) ∙ ap (λ n. let l : KeyedList = record { items = list_of f.parts n; insertions = slice_index f.made q } in l) e
@@ -98,7 +110,7 @@ items_are f q s h = ap (λ (l : KeyedList). l.items) (root_is f q s h)
 
 -- an entry stands in a root where the root's list has it
 pub stands : (f : Grove) (q e : ℕ) → Stood f → q < length f.parts.links → list_any (is_entry e) (list_of f.parts q) ≡ true → StandsIn q e (seen_of f)
-stands f q e s h k = record { exists = subst (λ n. q < n) (sym (roots_counted f s)) h; held = ap (list_any (is_entry e)) (items_are f q s h) ∙ k }
+stands f q e s h k = record { exists = root_seen f q s h; held = ap (list_any (is_entry e)) (items_are f q s h) ∙ k }
 
 -- the same read back
 pub record Held (f : Grove) (q e : ℕ) : Type 0 where
@@ -193,3 +205,11 @@ first_is f q result s h g = g ∙ sym (ap first_entry (items_are f q s (root_fit
 pub from_is : (f : Grove) (q key : ℕ) (result : Option ℕ) → Stood f → q < length (seen_of f).roots → result ≡ first_entry (filter (λ x. nat_le key x.key) (list_of f.parts q)) → result ≡ entry_from key (root_at q (seen_of f)).items
 from_is f q key result s h g =
     g ∙ (from_found key (list_of f.parts q) ∙ sym (ap (entry_from key) (items_are f q s (root_fits f q s h))))
+
+-- an entry for which no root was found is free
+pub free_is : (s : KeyedRoots) (e : ℕ) (o : Option ℕ) → ((q : ℕ) → StandsIn q e s → o ≡ Some q) → is_some o ≡ false → IsFree e s
+free_is s e o h n q x =
+    elim (cases_Bool (holds e (root_at q s))) [
+      | inl k ↦ absurd (false≢true (sym n ∙ ap is_some (h q (record { exists = x; held = k }))))
+      | inr k ↦ k
+    ]

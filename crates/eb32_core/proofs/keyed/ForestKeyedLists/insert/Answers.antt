@@ -1,8 +1,6 @@
 use Rattle.std.proofs.Common.{◌≡◌, ◌+◌, ◌^◌, ◌<◌, length, sym, ap, ◌∙◌, subst, arith}
-use Rattle.sched_base.specs.KeyedList.{inserted_into}
 use Rattle.eb_arena.specs.Shape.{HasShape}
-use Rattle.eb32_core.specs.Forest.{seen_of}
-use Rattle.eb32_core.proofs.Standing.{Stood, root_fits, made_is}
+use Rattle.eb32_core.proofs.Standing.{Stood, entries_are, root_fits, made_is}
 use Rattle.eb32_core.proofs.keyed.ForestKeyedLists.insert.Goals as goal
 
 pub prove-unreachable-requires : goal.prove-unreachable-requires
@@ -22,6 +20,5 @@ put-requires-clause-room c =
     let s : Stood c.args.self.now = record { counts = c.arena.ensures.counts; shape = subst HasShape c.arena.ensures.same c.arena.ensures.shape } in
     subst (λ n. n + 1 < 2 ^ 63) (made_is _ _ s c.requires.root_exists) c.requires.room
 
-pub returns : goal.returns
-returns c =
-    let e : seen_of c.put.new.forest ≡ inserted_into c.args.root c.args.entry c.args.key (seen_of c.args.self.now) = c.put.ensures in e
+pub put-requires-clause-entry_exists : goal.put-requires-clause-entry_exists
+put-requires-clause-entry_exists c = subst (λ n. c.args.entry < n) (entries_are c.args.self.now) c.requires.entry_exists
