@@ -171,3 +171,19 @@ empty_tended roots entries h =
       };
       spines = λ q g. tt;
     }
+
+lists-none : (a : Parts) (q n : ℕ) → ((i : ℕ) → i < n → list_of a (q + i) ≡ []) → lists_from a q (replicate n 0) ≡ replicate n blank
+lists-none a q zero h = refl
+lists-none a q (suc n) h =
+    let e : q + 0 ≡ q = omega arith in
+    let f : list_of a q ≡ [] = ap (list_of a) (sym e) ∙ h 0 (omega arith) in
+    let up : lists_from a (suc q) (replicate n 0) ≡ replicate n blank = lists-none a (suc q) n (λ i g. let s : suc q + i ≡ q + suc i = omega arith in ap (list_of a) s ∙ h (suc i) (omega arith)) in
+    ap (λ l. let x : KeyedList = record { items = l; insertions = 0 } in x ∷ lists_from a (suc q) (replicate n 0)) f ∙ ap (λ l. blank ∷ l) up
+
+-- and stands for empty lists
+pub empty_seen : (roots entries : ℕ) → seen_of (record { parts = record { elements = replicate entries unused; links = replicate roots targets.Nothing }; made = replicate roots 0 }) ≡ record { roots = replicate roots blank; entries = entries }
+unfolding seen_of
+empty_seen roots entries =
+    let a : Parts = record { elements = replicate entries unused; links = replicate roots targets.Nothing } in
+    let none : (i : ℕ) → i < roots → list_of a (0 + i) ≡ [] = λ i g. let e : 0 + i ≡ i = omega arith in ap (list_of a) e ∙ list_of_is a i None (get_or-replicate roots i targets.Nothing targets.Nothing g) in
+    ap (λ l. let s : KeyedRoots = record { roots = l; entries = length (replicate entries unused) } in s) (lists-none a 0 roots none) ∙ ap (λ n. let s : KeyedRoots = record { roots = replicate roots blank; entries = n } in s) (length-replicate entries unused)

@@ -87,6 +87,9 @@ pub entries_are : (f : Grove) → (seen_of f).entries ≡ length f.parts.element
 unfolding seen_of
 entries_are f = refl
 
+pub entry_counted : (f : Grove) (e n : ℕ) → n ≡ length f.parts.elements → e < n → e < (seen_of f).entries
+entry_counted f e n is h = subst (λ m. e < m) (is ∙ sym (entries_are f)) h
+
 pub root_fits : (f : Grove) (q : ℕ) → Stood f → q < length (seen_of f).roots → q < length f.parts.links
 root_fits f q s h = subst (λ n. q < n) (roots_counted f s) h
 

@@ -1,7 +1,7 @@
 //! The forest: ordered lists of entries in one arena.
 
 ghost use Rattle.std.specs.Prelude.{◌≡◌, ℕ, ◌+◌, ◌^◌, ◌<◌, length, slice_index, replicate, IfOk, IfSome};
-ghost use Rattle.sched_base.specs.KeyedList.{root_at, inserted_into, deleted_from, StandsIn, IsPlaced, IsFree, key_of_entry};
+ghost use Rattle.sched_base.specs.KeyedList.{blank, root_at, inserted_into, deleted_from, StandsIn, IsPlaced, IsFree, key_of_entry};
 ghost use Rattle.eb_arena.specs.Parts.{unused};
 ghost use Rattle.eb_arena.specs.Shape.{HasShape};
 ghost use Rattle.eb_arena.specs.declared.links.Target.TheVariants as targets;
@@ -39,7 +39,8 @@ impl Forest {
     /// 2,147,483,647 together.
     pub fn new(alloc: Global, roots: u32, entries: u32) -> Result<Forest, AllocError>
         requires { roots + entries < 2147483647 }
-        ensures { IfOk result (λ f. f ≡ record { parts = record { elements = replicate entries unused; links = replicate roots targets.Nothing }; made = replicate roots 0 }) }
+        ensures unused { IfOk result (λ f. f ≡ record { parts = record { elements = replicate entries unused; links = replicate roots targets.Nothing }; made = replicate roots 0 }) }
+        ensures empty { IfOk result (λ f. seen_of f ≡ record { roots = replicate roots blank; entries = entries }) }
     {
         let arena = Arena::with_capacity(alloc, roots, entries)?;
         let made = vec![in alloc; 0u64; roots as usize]?;
