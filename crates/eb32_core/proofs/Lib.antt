@@ -23,3 +23,6 @@ pub mod ReplaceTrees
 pub mod ReplaceShape
 pub mod UprootClear
 pub mod UprootShape
+pub mod Standing
+pub mod Upward
+pub mod Leaving

@@ -3,9 +3,11 @@
 
 mod descent;
 mod forest;
+mod keyed;
 mod planting;
 mod removal;
 mod replacing;
+mod roots;
 #[cfg(test)]
 mod tests;
 mod unlinking;

@@ -1,7 +1,7 @@
 -- One step up from a place, and the turn onto a node's other side.
 use Rattle.std.proofs.Common.{◌≡◌, ◌≢◌, ℕ, ◌+◌, ◌-◌, ◌<◌, ◌≤◌, List, [], ◌∷◌, length, refl, sym, ap, ◌∙◌, subst, arith, ltb, cond, lt-ltb, le-ltb}
 use Rattle.std.specs.Prelude.{Some, None}
-use Rattle.sched_base.specs.KeyedList.{KeyedItem}
+use Rattle.sched_base.specs.KeyedList.{KeyedItem, first_entry}
 use Rattle.eb_arena.specs.declared.links.Side.{Side}
 use Rattle.eb_arena.specs.declared.links.Side.TheVariants as sides
 use Rattle.eb_arena.specs.declared.links.Target.{Target}
@@ -14,7 +14,7 @@ use Rattle.eb_arena.specs.Way.{Step, from_left, from_right, fill, plug, before, 
 use Rattle.eb_arena.proofs.Trees.{bit_rank, tree_rank, falls_left, falls_right, rank_fits}
 use Rattle.eb_arena.proofs.Reading.{list_below_is}
 use Rattle.eb_arena.proofs.Ways.{part_split}
-use Rattle.eb32_walk.specs.Ends.{IsTree, IsPlace, end_entry, first_entry, last_entry, beyond}
+use Rattle.eb32_walk.specs.Ends.{IsTree, IsPlace, end_entry, last_entry, beyond}
 use Rattle.eb32_walk.proofs.Firsts.{first_of, last_of}
 
 -- a way up from the place with these items beyond it on a side

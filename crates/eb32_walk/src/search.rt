@@ -2,7 +2,8 @@
 
 ghost use Rattle.std.specs.Prelude.{◌≡◌, ◌<◌, ◌==◌, nat_le, [], filter, length, IfSome, MatchOption};
 ghost use Rattle.eb_arena.specs.Shape.{HasShape, IsBit, list_of};
-ghost use Rattle.eb32_walk.specs.Ends.{IsIn, IsTree, first_entry, last_entry};
+ghost use Rattle.sched_base.specs.KeyedList.{first_entry};
+ghost use Rattle.eb32_walk.specs.Ends.{IsIn, IsTree, last_entry};
 ghost use Rattle.eb32_walk.specs.Search.{IsFound, own_key, turn_of};
 
 use crate::ends::{end_below, neighbour};
