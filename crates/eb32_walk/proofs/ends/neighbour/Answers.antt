@@ -1,5 +1,5 @@
 use Rattle.std.proofs.Common.{◌≡◌, ◌<◌, ◌≤◌, length, sym, ap, ◌∙◌, arith}
-use Rattle.eb_arena.specs.Links.{place_index, place_side}
+use Rattle.eb_arena.specs.Links.{place_index}
 use Rattle.eb_arena.specs.Parts.{element_at, child}
 use Rattle.eb_arena.specs.Shape.{list_below}
 use Rattle.eb32_walk.specs.Ends.{end_entry}

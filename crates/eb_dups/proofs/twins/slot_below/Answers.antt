@@ -1,4 +1,4 @@
-use Rattle.std.proofs.Common.{◌≡◌, refl, sym, ap, ◌∙◌}
+use Rattle.std.proofs.Common.{◌≡◌, ap}
 use Rattle.eb_arena.specs.declared.links.Target.TheVariants as targets
 use Rattle.eb_arena.proofs.LeafOrNode.{node_is, leaf_is_no_node}
 use Rattle.eb_dups.proofs.Descent.{SpineStep, walk_start, walk_end, here_some, step_down}
