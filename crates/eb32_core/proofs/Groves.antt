@@ -43,7 +43,7 @@ key_on a e key (fork i b l r) f h = (
   key_on a e key r f (record { leaf = λ y. h.leaf (inr y); node = λ y. h.node (inr (inr y)) }),
 )
 
-key_leaf : (a : Parts) (e key x : ℕ) → e < length a.elements → (element_at (keyed a e key) x).leaf_p ≡ (element_at a x).leaf_p
+pub key_leaf : (a : Parts) (e key x : ℕ) → e < length a.elements → (element_at (keyed a e key) x).leaf_p ≡ (element_at a x).leaf_p
 key_leaf a e key x f =
     let d : Element = record (element_at a e) { key = key } in
     elim (cases_eq x e) [
@@ -69,11 +69,11 @@ key_shape a ts e key h f n =
       nodes = λ i g m. h.nodes i (subst (λ y. i < y) c g) (λ y. m ((key_node a e key i f).node_p ∙ y));
     }
 
-lists-length : (a : Parts) (q : ℕ) (ms : List ℕ) → length (lists_from a q ms) ≡ length ms
+pub lists-length : (a : Parts) (q : ℕ) (ms : List ℕ) → length (lists_from a q ms) ≡ length ms
 lists-length a q [] = refl
 lists-length a q (m ∷ ms) = ap suc (lists-length a (suc q) ms)
 
-lists-get : (a : Parts) (q : ℕ) (ms : List ℕ) (i : ℕ) → i < length ms → get_or (lists_from a q ms) i blank ≡ record { items = list_of a (q + i); insertions = get_or ms i 0 }
+pub lists-get : (a : Parts) (q : ℕ) (ms : List ℕ) (i : ℕ) → i < length ms → get_or (lists_from a q ms) i blank ≡ record { items = list_of a (q + i); insertions = get_or ms i 0 }
 lists-get a q [] i h = absurd (omega arith)
 lists-get a q (m ∷ ms) zero h = let e : q ≡ q + 0 = omega arith in ap (λ n. let l : KeyedList = record { items = list_of a n; insertions = m } in l) e
 lists-get a q (m ∷ ms) (suc i) h =
@@ -87,7 +87,7 @@ lists-same a z q (m ∷ ms) h =
     let f : list_of z q ≡ list_of a q = subst (λ n. list_of z n ≡ list_of a n) e (h 0 (omega arith)) in
     ap (λ l. let x : KeyedList = record { items = l; insertions = m } in x ∷ lists_from z (suc q) ms) f ∙ ap (λ l. let x : KeyedList = record { items = list_of a q; insertions = m } in x ∷ l) (lists-same a z (suc q) ms (λ i g. let s : q + suc i ≡ suc q + i = omega arith in subst (λ n. list_of z n ≡ list_of a n) s (h (suc i) (omega arith))))
 
-lists-set : (a z : Parts) (q : ℕ) (ms : List ℕ) (r m : ℕ) (l : List KeyedItem) → r < length ms → list_of z (q + r) ≡ l → ((i : ℕ) → i < length ms → (i ≡ r → ⊥) → list_of z (q + i) ≡ list_of a (q + i)) → lists_from z q (set ms r m) ≡ set (lists_from a q ms) r (record { items = l; insertions = m })
+pub lists-set : (a z : Parts) (q : ℕ) (ms : List ℕ) (r m : ℕ) (l : List KeyedItem) → r < length ms → list_of z (q + r) ≡ l → ((i : ℕ) → i < length ms → (i ≡ r → ⊥) → list_of z (q + i) ≡ list_of a (q + i)) → lists_from z q (set ms r m) ≡ set (lists_from a q ms) r (record { items = l; insertions = m })
 lists-set a z q [] r m l f e h = absurd (omega arith)
 lists-set a z q (x ∷ ms) zero m l f e h =
     let s : q + 0 ≡ q = omega arith in
@@ -112,6 +112,7 @@ spines_rise : (m : ℕ) (o : Option Tree) (t : Tree) → Spines (m + 1) t → o 
 spines_rise m o t s e = subst (SpinesIn (m + 1)) (sym e) s
 
 pub inserted_grove : (f : Grove) (z : Parts) (root entry key : ℕ) → IsTended f → root < length f.parts.links → entry < length f.parts.elements → (element_at f.parts entry).leaf_p ≡ places.Nowhere → Plants (keyed f.parts entry key) z root entry → Inserted f (record { parts = z; made = set f.made root (slice_index f.made root + 1) }) root entry key
+unfolding seen_of
 inserted_grove f z root entry key t r e n pl =
     let a : Parts = f.parts in
     let k : Parts = keyed a entry key in
@@ -170,3 +171,19 @@ empty_tended roots entries h =
       };
       spines = λ q g. tt;
     }
+
+lists-none : (a : Parts) (q n : ℕ) → ((i : ℕ) → i < n → list_of a (q + i) ≡ []) → lists_from a q (replicate n 0) ≡ replicate n blank
+lists-none a q zero h = refl
+lists-none a q (suc n) h =
+    let e : q + 0 ≡ q = omega arith in
+    let f : list_of a q ≡ [] = ap (list_of a) (sym e) ∙ h 0 (omega arith) in
+    let up : lists_from a (suc q) (replicate n 0) ≡ replicate n blank = lists-none a (suc q) n (λ i g. let s : suc q + i ≡ q + suc i = omega arith in ap (list_of a) s ∙ h (suc i) (omega arith)) in
+    ap (λ l. let x : KeyedList = record { items = l; insertions = 0 } in x ∷ lists_from a (suc q) (replicate n 0)) f ∙ ap (λ l. blank ∷ l) up
+
+-- and stands for empty lists
+pub empty_seen : (roots entries : ℕ) → seen_of (record { parts = record { elements = replicate entries unused; links = replicate roots targets.Nothing }; made = replicate roots 0 }) ≡ record { roots = replicate roots blank; entries = entries }
+unfolding seen_of
+empty_seen roots entries =
+    let a : Parts = record { elements = replicate entries unused; links = replicate roots targets.Nothing } in
+    let none : (i : ℕ) → i < roots → list_of a (0 + i) ≡ [] = λ i g. let e : 0 + i ≡ i = omega arith in ap (list_of a) e ∙ list_of_is a i None (get_or-replicate roots i targets.Nothing targets.Nothing g) in
+    ap (λ l. let s : KeyedRoots = record { roots = l; entries = length (replicate entries unused) } in s) (lists-none a 0 roots none) ∙ ap (λ n. let s : KeyedRoots = record { roots = replicate roots blank; entries = n } in s) (length-replicate entries unused)

@@ -85,33 +85,3 @@ pub land_leaf : (a : Parts) (q key : ℕ) (part : Target) → Narrow a q key par
 land_leaf a q key targets.Nothing n h = absurd (nothing_stands a n.place n.tree n.stands)
 land_leaf a q key (targets.Leaf i) n h = land a q key (targets.Leaf i) n (leaf_lies a key i n.place n.tree n.stands) (leaf_ends a key i n.place n.tree n.stands)
 land_leaf a q key (targets.Node i) n h = absurd (h i refl)
-
--- numbers of 32 bits that differ from a bit on differ below bit 32
-pub bit_small : (x y b : ℕ) → x < 2 ^ 32 → y < 2 ^ 32 → (x / 2 ^ b ≡ y / 2 ^ b → ⊥) → b < 32
-bit_small x y b f g n =
-    elim (cases_lt b 32) [
-      | inl lt ↦ lt
-      | inr le ↦
-          let u : x / 2 ^ 32 ≡ y / 2 ^ 32 = let s : x / 2 ^ 32 ≡ 0 = omega arith in let t : y / 2 ^ 32 ≡ 0 = omega arith in s ∙ sym t in
-          absurd (n (div_level 32 b x y le u))
-    ]
-
-half_one : (b x : ℕ) → x / 2 ^ b / 2 ≡ x / 2 ^ (b + 1)
-half_one b x = let e : suc b ≡ b + 1 = omega arith in half_is b x ∙ ap (λ y. x / 2 ^ y) e
-
--- one turn of the search for the highest bit
-pub record NextBit (x y b u v : ℕ) : Type 0 where
-  pub own_is : u / 2 ≡ x / 2 ^ (b + 1) / 2
-  pub key_is : v / 2 ≡ y / 2 ^ (b + 1) / 2
-  pub differ : x / 2 ^ (b + 1) ≡ y / 2 ^ (b + 1) → ⊥
-  pub small : b + 1 < 32
-
-pub next_bit : (x y b u v : ℕ) → x < 2 ^ 32 → y < 2 ^ 32 → u ≡ x / 2 ^ b / 2 → v ≡ y / 2 ^ b / 2 → (u ≡ v → ⊥) → NextBit x y b u v
-next_bit x y b u v fx fy f g n =
-    let d : x / 2 ^ (b + 1) ≡ y / 2 ^ (b + 1) → ⊥ = λ e. n (f ∙ (half_one b x ∙ (e ∙ (sym (half_one b y) ∙ sym g)))) in
-    record {
-      own_is = ap (λ z. z / 2) (f ∙ half_one b x);
-      key_is = ap (λ z. z / 2) (g ∙ half_one b y);
-      differ = d;
-      small = bit_small x y (b + 1) fx fy d;
-    }

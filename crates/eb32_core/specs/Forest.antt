@@ -23,5 +23,5 @@ lists_from a q [] = []
 lists_from a q (m ∷ ms) = record { items = list_of a q; insertions = m } ∷ lists_from a (suc q) ms
 
 -- the keyed lists of a forest
-abbrev pub seen_of : Grove → KeyedRoots
+unfoldable pub seen_of : Grove → KeyedRoots
 seen_of f = record { roots = lists_from f.parts 0 f.made; entries = length f.parts.elements }

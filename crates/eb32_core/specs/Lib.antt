@@ -1,3 +1,4 @@
 pub mod Landing
 pub mod Planted
+pub mod Removal
 pub mod Forest

@@ -6,7 +6,7 @@ ghost use Rattle.eb_arena.specs.Parts.{link_at};
 ghost use Rattle.eb_arena.specs.declared.links.Target.TheVariants as targets;
 ghost use Rattle.eb32_core.specs.Landing.{IsLanding, IsTopBit, SideIs};
 
-use eb_arena::{Arena, Link, Side, Target};
+use eb_arena::{Arena, Link, Side};
 use eb32_walk::turn;
 use sched_base::Steps;
 use std::sync::ledger::Ledger;
@@ -20,9 +20,9 @@ pub(crate) fn landing<L: Ledger>(arena: &Arena, root: u32, key: u32, steps: &mut
     ensures { IsLanding arena.now root key result }
 {
     let mut part = arena.root(root);
-    while let Target::Node(index) = part.target() {
+    while !part.is_leaf() {
         steps.tick();
-        let node = arena.element(index);
+        let node = arena.element(part.index());
         let Some(side) = turn(&node, key) else {
             return part;
         };
@@ -36,15 +36,7 @@ pub(crate) fn top_bit(own: u32, key: u32) -> u32
     requires { own ≢ key }
     ensures { IsTopBit own key result }
 {
-    let mut bit = 0u32;
-    let mut own_above = own / 2;
-    let mut key_above = key / 2;
-    while own_above != key_above {
-        own_above /= 2;
-        key_above /= 2;
-        bit += 1;
-    }
-    bit
+    31 - (own ^ key).leading_zeros()
 }
 
 /// The side of a new key beside another.

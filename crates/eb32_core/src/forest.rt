@@ -1,14 +1,15 @@
 //! The forest: ordered lists of entries in one arena.
 
-ghost use Rattle.std.specs.Prelude.{◌≡◌, ◌+◌, ◌^◌, ◌<◌, length, slice_index, replicate, IfOk};
-ghost use Rattle.sched_base.specs.KeyedList.{inserted_into};
-ghost use Rattle.eb_arena.specs.Parts.{element_at, unused};
+ghost use Rattle.std.specs.Prelude.{◌≡◌, ℕ, ◌+◌, ◌^◌, ◌<◌, length, slice_index, replicate, IfOk, IfSome};
+ghost use Rattle.sched_base.specs.KeyedList.{blank, root_at, inserted_into, deleted_from, StandsIn, IsPlaced, IsFree, key_of_entry};
+ghost use Rattle.eb_arena.specs.Parts.{unused};
 ghost use Rattle.eb_arena.specs.Shape.{HasShape};
 ghost use Rattle.eb_arena.specs.declared.links.Target.TheVariants as targets;
-ghost use Rattle.eb_arena.specs.declared.links.Place.TheVariants as places;
 ghost use Rattle.eb32_core.specs.Forest.{seen_of};
 
 use crate::planting::plant;
+use crate::removal::uproot;
+use crate::roots::root_above;
 use eb_arena::Arena;
 use sched_base::Steps;
 use std::alloc::{AllocError, Global};
@@ -38,7 +39,8 @@ impl Forest {
     /// 2,147,483,647 together.
     pub fn new(alloc: Global, roots: u32, entries: u32) -> Result<Forest, AllocError>
         requires { roots + entries < 2147483647 }
-        ensures { IfOk result (λ f. f ≡ record { parts = record { elements = replicate entries unused; links = replicate roots targets.Nothing }; made = replicate roots 0 }) }
+        ensures unused { IfOk result (λ f. f ≡ record { parts = record { elements = replicate entries unused; links = replicate roots targets.Nothing }; made = replicate roots 0 }) }
+        ensures empty { IfOk result (λ f. seen_of f ≡ record { roots = replicate roots blank; entries = entries }) }
     {
         let arena = Arena::with_capacity(alloc, roots, entries)?;
         let made = vec![in alloc; 0u64; roots as usize]?;
@@ -49,6 +51,7 @@ impl Forest {
     pub fn arena(&self) -> &Arena
         ensures same { result.now ≡ self.now.parts }
         ensures shape { HasShape result.now }
+        ensures counts { length self.now.made ≡ length self.now.parts.links }
     {
         &self.arena
     }
@@ -67,7 +70,7 @@ impl Forest {
     pub fn insert<L: Ledger>(&mut self, root: u32, entry: u32, key: u32, steps: &mut Steps<L>)
         requires root_exists { root < length self.old.parts.links }
         requires entry_exists { entry < length self.old.parts.elements }
-        requires free { (element_at self.old.parts entry).leaf_p ≡ places.Nowhere }
+        requires free { IsFree entry (seen_of self.old) }
         requires room { slice_index self.old.made root + 1 < 2 ^ 63 }
         ensures { seen_of self.new ≡ inserted_into root entry key (seen_of self.old) }
     {
@@ -76,5 +79,32 @@ impl Forest {
         self.arena.set(entry, element);
         plant(&mut self.arena, root, entry, steps);
         self.made[root as usize] += 1;
+    }
+
+    /// Takes an entry out of its root. One step is one element that is visited.
+    pub fn delete<L: Ledger>(&mut self, entry: u32, steps: &mut Steps<L>)
+        requires { IsPlaced entry (seen_of self.old) }
+        ensures { (root : ℕ) → StandsIn root entry (seen_of self.old) → seen_of self.new ≡ deleted_from root entry (seen_of self.old) }
+    {
+        uproot(&mut self.arena, entry, steps);
+    }
+
+    /// The root in which an entry stands; none where it stands in none, or is no entry.
+    pub fn is_in(&self, entry: u32) -> Option<u32>
+        ensures found { IfSome result (λ root. StandsIn root entry (seen_of self.now)) }
+        ensures one { (root : ℕ) → StandsIn root entry (seen_of self.now) → result ≡ Some root }
+    {
+        if entry >= self.arena.entries() || self.arena.element(entry).leaf_p.is_none() {
+            return None;
+        }
+        Some(root_above(&self.arena, entry))
+    }
+
+    /// The key under which an entry stands.
+    pub fn key_of(&self, entry: u32) -> u32
+        requires { IsPlaced entry (seen_of self.now) }
+        ensures { (root : ℕ) → StandsIn root entry (seen_of self.now) → key_of_entry entry (root_at root (seen_of self.now)).items ≡ Some result }
+    {
+        self.arena.element(entry).key
     }
 }

@@ -3,9 +3,15 @@
 
 mod descent;
 mod forest;
+mod keyed;
 mod planting;
+mod removal;
+mod replacing;
+mod roots;
 #[cfg(test)]
 mod tests;
+mod unlinking;
 
 pub use forest::Forest;
 pub use planting::plant;
+pub use removal::uproot;

@@ -1,28 +1,35 @@
-//! Forests that are filled one entry after another.
+//! Forests that are filled and emptied one entry after another.
 
-ghost use Rattle.std.specs.Prelude.{◌≡◌, ◌<◌, IfSome};
+ghost use Rattle.std.specs.Prelude.{◌≡◌, ℕ, ◌+◌, ◌^◌, ◌<◌, ◌≤◌, length, IfSome};
+ghost use Rattle.sched_base.specs.KeyedList.{root_at};
 ghost use Rattle.eb_arena.specs.Shape.{HasShape};
 ghost use Rattle.eb32_walk.specs.Ends.{IsIn};
 
 use crate::Forest;
 use eb_arena::{Arena, Element, Link, Side, Target, Up};
 use eb32_walk::{first, lookup, lookup_ge, lookup_le, next};
-use sched_base::Steps;
+use sched_base::{KeyedLists, PlainLists, Steps};
 use std::alloc::{AllocError, Global};
 use std::marker::Brand;
 use std::sync::ledger::{Blank, Ledger};
 use std::test::Fail;
 
-/// Inserts into root 0, where that may be done.
-fn put<L: Ledger>(forest: &mut Forest, entry: u32, key: u32, steps: &mut Steps<L>) -> bool {
+/// Inserts into a root, where that may be done.
+fn put<L: Ledger>(
+    forest: &mut Forest,
+    root: u32,
+    entry: u32,
+    key: u32,
+    steps: &mut Steps<L>,
+) -> bool {
     let arena = forest.arena();
-    if arena.roots() == 0 || entry >= arena.entries() || !arena.element(entry).leaf_p.is_none() {
+    if root >= arena.roots() || entry >= arena.entries() || forest.is_in(entry).is_some() {
         return false;
     }
-    if forest.insertions(0) >= 1 << 62 {
+    if forest.insertions(root) >= 1 << 62 {
         return false;
     }
-    forest.insert(0, entry, key, steps);
+    forest.insert(root, entry, key, steps);
     true
 }
 
@@ -42,22 +49,22 @@ fn filled<L: Ledger>(
     let mut steps = Steps::<L>::new(blank);
     let mut forest = Forest::new(alloc, 1, keys.len() as u32)?;
     for (entry, key) in keys.iter().enumerate() {
-        if !put(&mut forest, entry as u32, *key, &mut steps) {
+        if !put(&mut forest, 0, entry as u32, *key, &mut steps) {
             return Ok(None);
         }
     }
     Ok(Some(forest))
 }
 
-/// The entries of root 0 in order.
-fn order(alloc: Global, arena: &Arena) -> Result<Vec<u32>, AllocError>
+/// The entries of a root in order.
+fn order(alloc: Global, arena: &Arena, root: u32) -> Result<Vec<u32>, AllocError>
     requires { HasShape arena.now }
 {
     let mut entries = Vec::new(alloc);
-    if arena.roots() == 0 {
+    if root >= arena.roots() {
         return Ok(entries);
     }
-    let mut at = first(arena, 0);
+    let mut at = first(arena, root);
     for _ in 0..arena.entries() {
         let Some(entry) = at else {
             return Ok(entries);
@@ -133,7 +140,7 @@ fn keeps_four_equal_keys(rt: HostRuntime) -> Result<(), Fail> {
         assert_eq!(rt; arena.element(index as u32), *element);
     }
     assert_eq!(rt;
-        order(rt.alloc(), arena)?.as_slice(),
+        order(rt.alloc(), arena, 0)?.as_slice(),
         [0, 1, 2, 3].as_slice()
     );
     Ok(())
@@ -143,7 +150,7 @@ fn keeps_four_equal_keys(rt: HostRuntime) -> Result<(), Fail> {
 fn keeps_keys_in_order(rt: HostRuntime) -> Result<(), Fail> {
     let forest = filled::<Brand>(rt.alloc(), Blank::new(1), &[4, 6, 5])?.ok_or("filled")?;
     let arena = forest.arena();
-    assert_eq!(rt; order(rt.alloc(), arena)?.as_slice(), [0, 2, 1].as_slice());
+    assert_eq!(rt; order(rt.alloc(), arena, 0)?.as_slice(), [0, 2, 1].as_slice());
     assert_eq!(rt; arena.roots(), 1);
     assert_eq!(rt; lookup_ge(arena, 0, 5), Some(2));
     assert_eq!(rt; lookup_ge(arena, 0, 7), None);
@@ -159,10 +166,225 @@ fn keeps_a_short_spine(rt: HostRuntime) -> Result<(), Fail> {
     let forest = filled::<Brand>(rt.alloc(), Blank::new(1), keys.as_slice())?.ok_or("filled")?;
     let arena = forest.arena();
     assert!(rt; spine_nodes(arena) <= 10);
-    let entries = order(rt.alloc(), arena)?;
+    let entries = order(rt.alloc(), arena, 0)?;
     assert_eq!(rt; entries.len(), 1024);
     for (place, entry) in entries.iter().enumerate() {
         assert_eq!(rt; *entry as usize, place);
+    }
+    Ok(())
+}
+
+/// The same without one of the entries.
+fn filled_without<L: Ledger>(
+    alloc: Global,
+    blank: Blank,
+    keys: &[u32],
+    entry: u32,
+) -> Result<Option<Forest>, AllocError>
+    requires name { blank.name ≡ L.name }
+    requires parts { blank.parts ≡ L.parts }
+    requires some { 0 < L.parts }
+{
+    let Some(mut forest) = filled::<L>(alloc, blank, keys)? else {
+        return Ok(None);
+    };
+    if forest.is_in(entry).is_none() {
+        return Ok(None);
+    }
+    KeyedLists::delete(&mut forest, entry);
+    Ok(Some(forest))
+}
+
+#[test]
+fn deletes_the_first_of_four_equal_keys(rt: HostRuntime) -> Result<(), Fail> {
+    let forest = filled_without::<Brand>(rt.alloc(), Blank::new(1), &[5, 5, 5, 5], 0)?
+        .ok_or("filled")?;
+    let arena = forest.arena();
+    assert_eq!(rt; arena.entries(), 4);
+    assert_eq!(rt; arena.element(2).left, Link::leaf(1));
+    assert_eq!(rt; arena.element(1).leaf_p.number(), 4);
+    assert!(rt; arena.element(1).node_p.is_none());
+    assert_eq!(rt; order(rt.alloc(), arena, 0)?.as_slice(), [1, 2, 3].as_slice());
+    Ok(())
+}
+
+#[test]
+fn deletes_the_second_of_four_equal_keys(rt: HostRuntime) -> Result<(), Fail> {
+    let forest = filled_without::<Brand>(rt.alloc(), Blank::new(1), &[5, 5, 5, 5], 1)?
+        .ok_or("filled")?;
+    let arena = forest.arena();
+    assert_eq!(rt; arena.entries(), 4);
+    assert!(rt; arena.element(1).node_p.is_none());
+    assert_eq!(rt; arena.element(2).left.number(), 0);
+    assert_eq!(rt; order(rt.alloc(), arena, 0)?.as_slice(), [0, 2, 3].as_slice());
+    Ok(())
+}
+
+#[test]
+fn deletes_the_entry_of_the_top_node(rt: HostRuntime) -> Result<(), Fail> {
+    let forest = filled_without::<Brand>(rt.alloc(), Blank::new(1), &[5, 5, 5, 5], 2)?
+        .ok_or("filled")?;
+    let arena = forest.arena();
+    assert_eq!(rt; (arena.entries(), arena.roots()), (4, 1));
+    assert_eq!(rt; arena.root(0).number(), 7);
+    let top = arena.element(3);
+    assert_eq!(rt; top.bit, -2);
+    assert_eq!(rt; (top.left.number(), top.right.number(), top.node_p.number()), (3, 6, 8));
+    assert_eq!(rt; arena.element(1).node_p.number(), 6);
+    assert_eq!(rt; arena.element(3).leaf_p.number(), 7);
+    assert_eq!(rt; forest.is_in(2), None);
+    assert_eq!(rt; order(rt.alloc(), arena, 0)?.as_slice(), [0, 1, 3].as_slice());
+    Ok(())
+}
+
+#[test]
+fn deletes_the_only_entry(rt: HostRuntime) -> Result<(), Fail> {
+    let forest =
+        filled_without::<Brand>(rt.alloc(), Blank::new(1), &[5], 0)?.ok_or("filled")?;
+    let arena = forest.arena();
+    assert_eq!(rt; arena.roots(), 1);
+    assert!(rt; arena.root(0).is_none());
+    assert_eq!(rt; forest.is_in(0), None);
+    Ok(())
+}
+
+#[test]
+fn keeps_eight_equal_keys_in_order_of_insertion(rt: HostRuntime) -> Result<(), Fail> {
+    let forest = filled::<Brand>(rt.alloc(), Blank::new(1), &[7; 8])?.ok_or("filled")?;
+    assert_eq!(rt;
+        order(rt.alloc(), forest.arena(), 0)?.as_slice(),
+        [0, 1, 2, 3, 4, 5, 6, 7].as_slice()
+    );
+    Ok(())
+}
+
+/// What the calls of keyed lists answer; of an entry that stands in no root neither the next nor
+/// the key is asked.
+#[derive(Clone, Copy, Debug, PartialEq, Eq)]
+struct Answers {
+    first: Option<u32>,
+    at_least: Option<u32>,
+    root: Option<u32>,
+    next: Option<u32>,
+    key: Option<u32>,
+}
+
+/// Asks for all that keyed lists answer.
+fn asked<K: KeyedLists>(lists: &K, root: u32, entry: u32, key: u32) -> Answers
+    requires { root < length (K.seen lists.now).roots }
+{
+    let mut answers = Answers {
+        first: lists.first(root),
+        at_least: lists.lookup_ge(root, key),
+        root: lists.root_of(entry),
+        next: None,
+        key: None,
+    };
+    if lists.root_of(entry).is_some() {
+        answers.next = lists.next(entry);
+        answers.key = Some(lists.key_of(entry));
+    }
+    answers
+}
+
+/// Puts an entry into a root, or takes it out where it stands in one.
+fn toggle<K: KeyedLists>(lists: &mut K, root: u32, entry: u32, key: u32)
+    requires root { root < length (K.seen lists.old).roots }
+    requires entry { entry < (K.seen lists.old).entries }
+    requires room { (root_at root (K.seen lists.old)).insertions + 1 < 2 ^ 63 }
+    ensures roots { length (K.seen lists.new).roots ≡ length (K.seen lists.old).roots }
+    ensures entries { (K.seen lists.new).entries ≡ (K.seen lists.old).entries }
+    ensures insertions { (r : ℕ) → (root_at r (K.seen lists.new)).insertions ≤ (root_at r (K.seen lists.old)).insertions + 1 }
+{
+    if lists.root_of(entry).is_some() {
+        lists.delete(entry);
+    } else {
+        lists.insert(root, entry, key);
+    }
+}
+
+/// The same for rows of a root, an entry and a key.
+fn toggle_all(forest: &mut Forest, rows: &[(u32, u32, u32)]) {
+    for (root, entry, key) in rows {
+        let arena = forest.arena();
+        if *root >= arena.roots() || *entry >= arena.entries() {
+            return;
+        }
+        if forest.insertions(*root) >= 1 << 62 {
+            return;
+        }
+        toggle(forest, *root, *entry, *key);
+    }
+}
+
+/// The next of a row of numbers that looks random.
+fn shuffled(number: u64) -> u64 {
+    let mut next = number;
+    next ^= next << 13;
+    next ^= next >> 7;
+    next ^= next << 17;
+    next
+}
+
+/// What two roots over 128 entries answer in so many rounds, each of which puts an entry in or
+/// takes it out. The keys are below a bound.
+fn history<K: KeyedLists>(
+    alloc: Global,
+    lists: &mut K,
+    rounds: u32,
+    bound: u32,
+) -> Result<Vec<Answers>, AllocError>
+    requires bound { 0 < bound }
+    requires roots { length (K.seen lists.old).roots ≡ 2 }
+    requires entries { (K.seen lists.old).entries ≡ 128 }
+    requires insertions { (r : ℕ) → (root_at r (K.seen lists.old)).insertions ≤ 0 }
+{
+    let mut answers = Vec::new(alloc);
+    let mut number = 88172645463325252u64;
+    for _ in 0..rounds {
+        number = shuffled(number);
+        let root = (number % 2) as u32;
+        let entry = (number / 2 % 128) as u32;
+        let other = (number / 256 % 128) as u32;
+        let key = (number / 32768 % 4294967296) as u32 % bound;
+        toggle(lists, root, entry, key);
+        answers.push(asked(lists, root, other, key))?;
+    }
+    Ok(answers)
+}
+
+#[test]
+fn keeps_two_roots_apart(rt: HostRuntime) -> Result<(), Fail> {
+    let mut forest = Forest::new(rt.alloc(), 2, 6)?;
+    let rows = [(0, 0, 7), (1, 1, 3), (0, 2, 7), (1, 3, 9), (0, 4, 1), (1, 1, 3)];
+    toggle_all(&mut forest, rows.as_slice());
+    assert_eq!(rt; forest.arena().roots(), 2);
+    for (root, entries) in [(0, [4, 0, 2].as_slice()), (1, [3].as_slice())] {
+        assert_eq!(rt; order(rt.alloc(), forest.arena(), root)?.as_slice(), entries);
+    }
+    let of_four = Answers {
+        first: Some(3),
+        at_least: Some(3),
+        root: Some(0),
+        next: Some(0),
+        key: Some(1),
+    };
+    assert_eq!(rt; asked(&forest, 1, 4, 9), of_four);
+    for entry in [1, 5, 6] {
+        assert_eq!(rt; forest.is_in(entry), None);
+    }
+    Ok(())
+}
+
+#[test]
+fn answers_as_plain_lists_do(rt: HostRuntime) -> Result<(), Fail> {
+    for bound in [5, u32::MAX] {
+        let mut forest = Forest::new(rt.alloc(), 2, 128)?;
+        let mut plain = PlainLists::new(rt.alloc(), 2, 128)?;
+        let left = history(rt.alloc(), &mut forest, 50000, bound)?;
+        let right = history(rt.alloc(), &mut plain, 50000, bound)?;
+        assert_eq!(rt; left.len(), 50000);
+        assert!(rt; left == right);
     }
     Ok(())
 }

@@ -4,7 +4,7 @@ use Rattle.std.specs.Prelude.{pos, negsuc, Option, ◌==◌}
 use Rattle.std.proofs.lemmas.List.{append-nil}
 use Rattle.std.proofs.lemmas.List.Elements.{filter-append}
 use Rattle.std.proofs.lemmas.Nat.{pow_pos}
-use Rattle.sched_base.specs.KeyedList.{KeyedItem}
+use Rattle.sched_base.specs.KeyedList.{KeyedItem, first_entry}
 use Rattle.eb_arena.specs.declared.links.Place.{Place}
 use Rattle.eb_arena.specs.Links.{place_index}
 use Rattle.eb_arena.specs.Parts.{Parts, element_at, is_negative}
@@ -12,7 +12,7 @@ use Rattle.eb_arena.specs.Shape.{Tree, tip, fork, items, Keys, Split, DividesAt,
 use Rattle.eb_arena.specs.Way.{Step, from_left, from_right, plug, before, after, Leads}
 use Rattle.eb_arena.proofs.Trees.{Has, keys_at, keys_map, lt_by_div}
 use Rattle.eb_arena.proofs.Ways.{part_split}
-use Rattle.eb32_walk.specs.Ends.{IsPlace, AtEntry, AtPlace, first_entry, last_entry}
+use Rattle.eb32_walk.specs.Ends.{IsPlace, AtEntry, AtPlace, last_entry}
 use Rattle.eb_arena.specs.Shape.{AllKeys}
 use Rattle.eb32_walk.specs.Heads.{IsHead}
 use Rattle.eb32_walk.proofs.Entries.{EntryWay, entry_way}

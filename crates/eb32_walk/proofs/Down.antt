@@ -1,7 +1,7 @@
 -- One step down a tree, on one of its sides.
 use Rattle.std.proofs.Common.{◌≡◌, ◌≢◌, ℕ, ◌<◌, [], ◌∷◌, ◌++◌, length, refl, sym, ap, ◌∙◌, subst, arith}
 use Rattle.std.specs.Prelude.{Some}
-use Rattle.sched_base.specs.KeyedList.{KeyedItem}
+use Rattle.sched_base.specs.KeyedList.{KeyedItem, first_entry}
 use Rattle.eb_arena.specs.declared.links.Side.{Side}
 use Rattle.eb_arena.specs.declared.links.Side.TheVariants as sides
 use Rattle.eb_arena.specs.declared.links.Target.{Target}
@@ -14,7 +14,7 @@ use Rattle.eb_arena.specs.Parts.{Parts, element_at, child}
 use Rattle.eb_arena.specs.Shape.{Tree, tip, fork, items, Stands, Split, list_below}
 use Rattle.eb_arena.proofs.Trees.{bit_rank, tree_rank, falls_left, falls_right}
 use Rattle.eb_arena.proofs.Reading.{list_below_is}
-use Rattle.eb32_walk.specs.Ends.{IsIn, IsTree, end_entry, first_entry, last_entry}
+use Rattle.eb32_walk.specs.Ends.{IsIn, IsTree, end_entry, last_entry}
 use Rattle.eb32_walk.proofs.Firsts.{first_of, last_of}
 
 -- how far down a target can lead

@@ -3,7 +3,7 @@ use Rattle.std.proofs.Common.{◌≡◌, ◌≢◌, ℕ, ◌<◌, List, [], ◌�
 use Rattle.std.specs.Prelude.{Option, Some, None, IsSomeAnd, ◌==◌, if◌then◌else◌}
 use Rattle.std.specs.Option.{unwrap_or}
 use Rattle.std.proofs.lemmas.List.{append-nil, reverse-append, reverse-reverse}
-use Rattle.sched_base.specs.KeyedList.{KeyedItem}
+use Rattle.sched_base.specs.KeyedList.{KeyedItem, first_entry}
 use Rattle.eb_arena.specs.declared.links.Side.{Side}
 use Rattle.eb_arena.specs.declared.links.Side.TheVariants as sides
 use Rattle.eb_arena.specs.declared.links.Target.{Target}
@@ -15,7 +15,7 @@ use Rattle.eb_arena.specs.Shape.{Tree, tip, items_of, Split, HasLeaf, IsRoot, ro
 use Rattle.eb_arena.specs.Way.{Step, plug, before, after, Leads}
 use Rattle.eb_arena.proofs.Reading.{list_of_is}
 use Rattle.eb_arena.proofs.Ways.{ItemWay, item_way, LeafWay, leaf_way}
-use Rattle.eb32_walk.specs.Ends.{IsIn, IsTree, IsPlace, AtEntry, AtPlace, end_entry, first_entry, last_entry, first_under, last_under}
+use Rattle.eb32_walk.specs.Ends.{IsIn, IsTree, IsPlace, AtEntry, AtPlace, end_entry, last_entry, first_under, last_under}
 
 -- what hangs on a root, where something does, is a tree
 root_tree_at : (a : Parts) (q : ℕ) (o : Option Tree) → IsRoot a q o → (link_at a q ≡ targets.Nothing → ⊥) → IsTree a (link_at a q)

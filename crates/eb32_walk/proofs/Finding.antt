@@ -4,7 +4,7 @@ use Rattle.std.specs.Prelude.{Option, Some, None, ◌==◌, nat_le}
 use Rattle.std.proofs.lemmas.Bool.{le-leb, lt-leb, cases_eq, cases_lt}
 use Rattle.std.proofs.lemmas.List.{append-nil}
 use Rattle.std.proofs.lemmas.List.Elements.{filter-append}
-use Rattle.sched_base.specs.KeyedList.{KeyedItem}
+use Rattle.sched_base.specs.KeyedList.{KeyedItem, first_entry}
 use Rattle.eb_arena.specs.declared.links.Target.{Target}
 use Rattle.eb_arena.specs.declared.links.Place.{Place}
 use Rattle.eb_arena.specs.Links.{index_of}
@@ -13,7 +13,7 @@ use Rattle.eb_arena.specs.Shape.{Tree, tip, fork, items, Keys, Stands, list_of, 
 use Rattle.eb_arena.specs.Way.{before, after, Leads}
 use Rattle.eb_arena.proofs.Reading.{list_below_is}
 use Rattle.eb_arena.proofs.Ways.{part_split}
-use Rattle.eb32_walk.specs.Ends.{IsTree, IsPlace, AtPlace, first_entry, last_entry}
+use Rattle.eb32_walk.specs.Ends.{IsTree, IsPlace, AtPlace, last_entry}
 use Rattle.eb_arena.specs.Shape.{AllKeys}
 use Rattle.eb32_walk.specs.Search.{IsFound, own_key}
 use Rattle.eb32_walk.proofs.Firsts.{first_of, last_of}

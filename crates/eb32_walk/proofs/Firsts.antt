@@ -2,8 +2,8 @@
 use Rattle.std.proofs.Common.{◌≡◌, ℕ, List, [], ◌∷◌, ◌++◌, reverse, refl, ap, ◌∙◌}
 use Rattle.std.specs.Prelude.{Option, Some, None}
 use Rattle.std.proofs.lemmas.List.{reverse-append}
-use Rattle.sched_base.specs.KeyedList.{KeyedItem}
-use Rattle.eb32_walk.specs.Ends.{first_entry, last_entry}
+use Rattle.sched_base.specs.KeyedList.{KeyedItem, first_entry}
+use Rattle.eb32_walk.specs.Ends.{last_entry}
 
 -- the first list's end, or the second's where there is none
 abbrev pub or_else : Option ℕ → Option ℕ → Option ℕ

@@ -240,3 +240,7 @@ pub found_leaf : (a : Parts) (q key : ℕ) (part : Target) → Narrow a q key pa
 found_leaf a q key targets.Nothing n h = absurd (not_nothing a n.place n.tree n.stands)
 found_leaf a q key (targets.Leaf i) n h = found_from a q key (targets.Leaf i) n (leaf_lies a key i n.place n.tree n.stands)
 found_leaf a q key (targets.Node i) n h = absurd (h i refl)
+
+-- a part that was come to is not nothing
+pub narrow_some : (a : Parts) (q key : ℕ) (part : Target) → Narrow a q key part → part ≡ targets.Nothing → ⊥
+narrow_some a q key part h e = not_nothing a h.place h.tree (subst (λ t. Stands a t h.place h.tree) e h.stands)

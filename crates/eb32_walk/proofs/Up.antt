@@ -1,7 +1,7 @@
 -- One step up from a place, and the turn onto a node's other side.
 use Rattle.std.proofs.Common.{◌≡◌, ◌≢◌, ℕ, ◌+◌, ◌-◌, ◌<◌, ◌≤◌, List, [], ◌∷◌, length, refl, sym, ap, ◌∙◌, subst, arith, ltb, cond, lt-ltb, le-ltb}
 use Rattle.std.specs.Prelude.{Some, None}
-use Rattle.sched_base.specs.KeyedList.{KeyedItem}
+use Rattle.sched_base.specs.KeyedList.{KeyedItem, first_entry}
 use Rattle.eb_arena.specs.declared.links.Side.{Side}
 use Rattle.eb_arena.specs.declared.links.Side.TheVariants as sides
 use Rattle.eb_arena.specs.declared.links.Target.{Target}
@@ -14,7 +14,7 @@ use Rattle.eb_arena.specs.Way.{Step, from_left, from_right, fill, plug, before, 
 use Rattle.eb_arena.proofs.Trees.{bit_rank, tree_rank, falls_left, falls_right, rank_fits}
 use Rattle.eb_arena.proofs.Reading.{list_below_is}
 use Rattle.eb_arena.proofs.Ways.{part_split}
-use Rattle.eb32_walk.specs.Ends.{IsTree, IsPlace, end_entry, first_entry, last_entry, beyond}
+use Rattle.eb32_walk.specs.Ends.{IsTree, IsPlace, end_entry, last_entry, beyond}
 use Rattle.eb32_walk.proofs.Firsts.{first_of, last_of}
 
 -- a way up from the place with these items beyond it on a side
@@ -195,3 +195,12 @@ no_end sides.Right = refl
 pub root_finds : (a : Parts) (up place : Place) (side : Side) → StillOn a up place side → length a.elements ≤ place_index place → (q : ℕ) (w : List Step) (t : Tree) → Leads a q up w → Split (plug w t) → None ≡ end_entry (opposite side) (beyond side w)
 root_finds a up place side s f q w t l p =
     sym (ap (end_entry (opposite side)) (at_root a q place side (beyond side w) (s q w t l p) f) ∙ no_end (opposite side))
+
+right_by_way : (a : Parts) (q : ℕ) (place : Place) (w : List Step) → Leads a q place w → place_side place ≡ sides.Right → place_index place < length a.elements
+right_by_way a q place [] h e = let x : sides.Left ≡ sides.Right = sym (ap place_side h) ∙ e in cc
+right_by_way a q place (from_left i b r ∷ w) h e = let x : place_index place ≡ i = ap place_index h.0 in let y : i < length a.elements = h.1 in omega arith
+right_by_way a q place (from_right i b l ∷ w) h e = let x : place_index place ≡ i = ap place_index h.0 in let y : i < length a.elements = h.1 in omega arith
+
+-- what hangs on a root hangs at its left, so a right side is a node's
+pub right_below : (a : Parts) (place : Place) → IsPlace a place → place_side place ≡ sides.Right → place_index place < length a.elements
+right_below a place h e = right_by_way a h.root place h.way h.leads e

@@ -1,6 +1,6 @@
 -- The ends of a root's list, and what stands beside an entry (docs/TREES.md, "Walks").
 use Rattle.std.specs.Prelude.{◌≡◌, ◌≢◌, ℕ, ◌<◌, ◌==◌, if◌then◌else◌, List, [], ◌∷◌, ◌++◌, length, reverse, Option, Some, None}
-use Rattle.sched_base.specs.KeyedList.{KeyedItem}
+use Rattle.sched_base.specs.KeyedList.{KeyedItem, first_entry}
 use Rattle.eb_arena.specs.declared.links.Side.{Side}
 use Rattle.eb_arena.specs.declared.links.Side.TheVariants as sides
 use Rattle.eb_arena.specs.declared.links.Target.{Target}
@@ -18,11 +18,6 @@ IsIn a e = e < length a.elements × ((element_at a e).leaf_p ≢ places.Nowhere)
 abbrev pub AtEntry : Parts → ℕ → (List KeyedItem → ℕ → List KeyedItem → Type 0) → Type 0
 AtEntry a e P =
     (q k : ℕ) (xs ys : List KeyedItem) → q < length a.links → list_of a q ≡ xs ++ record { key = k; entry = e } ∷ ys → P xs k ys
-
--- the first entry of a list
-abbrev pub first_entry : List KeyedItem → Option ℕ
-first_entry [] = None
-first_entry (x ∷ xs) = Some x.entry
 
 -- the last entry of a list
 abbrev pub last_entry : List KeyedItem → Option ℕ

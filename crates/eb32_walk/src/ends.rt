@@ -6,7 +6,7 @@ ghost use Rattle.eb_arena.specs.Parts.{element_at};
 ghost use Rattle.eb_arena.specs.Shape.{list_below};
 ghost use Rattle.eb32_walk.specs.Ends.{IsIn, IsTree, IsPlace, AtPlace, end_entry, beyond};
 
-use eb_arena::{Arena, Link, Side, Target, Up};
+use eb_arena::{Arena, Link, Side, Up};
 
 /// The entry at an end of the tree below a link.
 pub(crate) fn end_below(arena: &Arena, link: Link, side: Side) -> u32
@@ -15,25 +15,29 @@ pub(crate) fn end_below(arena: &Arena, link: Link, side: Side) -> u32
     ensures in_tree { IsIn arena.now result }
 {
     let mut part = link;
-    while let Target::Node(index) = part.target() {
-        part = arena.element(index).child(side);
+    while !part.is_leaf() {
+        part = arena.element(part.index()).child(side);
     }
     part.index()
 }
 
-/// The entry next to a place on a side of it; none where the place is at that end of the tree.
+/// The entry next to a place on a side of it; none where the place is at that end of the tree. What
+/// hangs on a root hangs at its left side, so only a climb on the left can come to a root and go on.
 pub(crate) fn neighbour(arena: &Arena, up: Up, side: Side) -> Option<u32>
     requires { IsPlace arena.now up }
     ensures answer { AtPlace arena.now up (λ w. result ≡ end_entry (opposite side) (beyond side w)) }
     ensures in_tree { IfSome result (IsIn arena.now) }
 {
     let mut place = up;
-    while place.index() < arena.entries() {
-        let element = arena.element(place.index());
-        if place.side() != side {
-            return Some(end_below(arena, element.child(side), side.opposite()));
+    while place.side() == side {
+        if side == Side::Left && place.index() >= arena.entries() {
+            return None;
         }
-        place = element.node_p;
+        place = arena.element(place.index()).node_p;
     }
-    None
+    if place.index() >= arena.entries() {
+        return None;
+    }
+    let other = arena.element(place.index()).child(side);
+    Some(end_below(arena, other, side.opposite()))
 }

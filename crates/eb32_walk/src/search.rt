@@ -2,11 +2,12 @@
 
 ghost use Rattle.std.specs.Prelude.{◌≡◌, ◌<◌, ◌==◌, nat_le, [], filter, length, IfSome, MatchOption};
 ghost use Rattle.eb_arena.specs.Shape.{HasShape, IsBit, list_of};
-ghost use Rattle.eb32_walk.specs.Ends.{IsIn, IsTree, first_entry, last_entry};
+ghost use Rattle.sched_base.specs.KeyedList.{first_entry};
+ghost use Rattle.eb32_walk.specs.Ends.{IsIn, IsTree, last_entry};
 ghost use Rattle.eb32_walk.specs.Search.{IsFound, own_key, turn_of};
 
 use crate::ends::{end_below, neighbour};
-use eb_arena::{Arena, Element, Link, Side, Target};
+use eb_arena::{Arena, Element, Link, Side};
 
 /// The side of a node to which the key belongs; none where it differs from the node's keys above
 /// the node's bit, or where the node's keys are equal.
@@ -41,8 +42,8 @@ fn seek(arena: &Arena, root: u32, key: u32) -> Option<Link>
     if part.is_none() {
         return None;
     }
-    while let Target::Node(index) = part.target() {
-        let node = arena.element(index);
+    while !part.is_leaf() {
+        let node = arena.element(part.index());
         let Some(side) = turn(&node, key) else {
             return Some(part);
         };

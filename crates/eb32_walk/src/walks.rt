@@ -2,7 +2,8 @@
 
 ghost use Rattle.std.specs.Prelude.{◌≡◌, ◌<◌, ◌==◌, not, filter, reverse, length, IfSome};
 ghost use Rattle.eb_arena.specs.Shape.{HasShape, list_of};
-ghost use Rattle.eb32_walk.specs.Ends.{IsIn, AtEntry, end_entry, first_entry, last_entry, first_under, last_under};
+ghost use Rattle.sched_base.specs.KeyedList.{first_entry};
+ghost use Rattle.eb32_walk.specs.Ends.{IsIn, AtEntry, end_entry, last_entry, first_under, last_under};
 
 use crate::ends::{end_below, neighbour};
 use crate::heads::head_place;

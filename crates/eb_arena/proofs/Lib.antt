@@ -5,3 +5,4 @@ pub mod Keyed
 pub mod Unique
 pub mod Frame
 pub mod Rising
+pub mod LeafOrNode

@@ -10,6 +10,7 @@ use Rattle.eb_arena.specs.declared.links.Place.TheVariants as places
 use Rattle.eb_arena.specs.Links.{index_of}
 use Rattle.eb_arena.specs.Parts.{Parts, element_at}
 use Rattle.eb_arena.specs.Shape.{Tree, tip, fork, Stands, Split, IsBelow, Equals}
+use Rattle.eb_arena.proofs.Unique.{nothing_stands}
 use Rattle.eb_arena.specs.Way.{Step, from_right, plug, Leads}
 use Rattle.eb_dups.specs.Spine.{IsTwins, spine_value, depth, depth_of, IsSpine, HasGap, IsTwinTree, IsSlot}
 
@@ -213,3 +214,22 @@ walk_end a head slot here w n = end_by a head slot here w w.at refl n
 
 pub here_fits : (a : Parts) (head slot here : Target) → Walk a head slot here → index_of here < length a.elements
 here_fits a head slot here w = index_fits a here w.at_place w.at w.at_stands
+
+-- where the walk is, there is a part
+pub here_some : (a : Parts) (head slot here : Target) → Walk a head slot here → here ≡ targets.Nothing → ⊥
+here_some a head slot here w e = nothing_stands a w.at_place w.at (subst (λ t. Stands a t w.at_place w.at) e w.at_stands)
+
+-- a step down the spine from a node, of the depths that were read
+pub record SpineStep (a : Parts) (head slot next : Target) (deep low : ℕ) : Type 0 where
+  pub slot_down : low + 1 < deep → Walk a head next next
+  pub slot_stays : deep ≤ low + 1 → Walk a head slot next
+
+pub step_down : (a : Parts) (head slot here next : Target) (i deep low : ℕ) → Walk a head slot here → targets.Node i ≡ here → next ≡ (element_at a i).right → deep ≡ depth_of a here → low ≡ depth_of a next → SpineStep a head slot next deep low
+step_down a head slot here next i deep low w n e d b =
+    let s : Spot a head slot i = spot a head slot here i w n in
+    let h : depth_of a here ≡ suc s.n = ap (depth_of a) (sym n) ∙ s.here_depth in
+    let r : low ≡ depth_of a (element_at a i).right = b ∙ ap (depth_of a) e in
+    record {
+      slot_down = λ lt. subst (λ t. Walk a head t t) (sym e) (s.slot_down (omega (arith, lt, d, h, r)));
+      slot_stays = λ ge. subst (Walk a head slot) (sym e) (s.slot_stays (λ lt. omega (arith, lt, ge, d, h, r)));
+    }

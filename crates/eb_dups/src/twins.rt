@@ -3,24 +3,26 @@
 ghost use Rattle.std.specs.Prelude.{◌≡◌, ◌≢◌, ◌+◌, ◌<◌, ℤ, negsuc, length};
 ghost use Rattle.eb_arena.specs.Links.{index_of};
 ghost use Rattle.eb_arena.specs.Parts.{element_at};
+ghost use Rattle.eb_arena.specs.declared.links.Target.TheVariants as targets;
 ghost use Rattle.eb_arena.specs.declared.links.Place.TheVariants as places;
 ghost use Rattle.eb_dups.specs.Spine.{KeyHead, TwinAdded, IsTwinTree, IsSlot, depth_of};
 ghost use Rattle.eb_dups.specs.Added.{AddsTwin};
 
 use crate::grow::attach;
-use eb_arena::{Arena, Link, Side, Target};
+use eb_arena::{Arena, Link, Side};
 use sched_base::Steps;
 use std::sync::ledger::Ledger;
 
 /// Minus the bit of a node of equal keys; 0 for a leaf.
 fn depth_at(arena: &Arena, part: Link) -> u16
-    requires { index_of part < length arena.now.elements }
+    requires some { part ≢ targets.Nothing }
+    requires exists { index_of part < length arena.now.elements }
     ensures { result ≡ depth_of arena.now part }
 {
-    match part.target() {
-        Target::Node(index) => arena.element(index).bit.unsigned_abs(),
-        _ => 0,
+    if part.is_leaf() {
+        return 0;
     }
+    arena.element(part.index()).bit.unsigned_abs()
 }
 
 /// The bit of a node just above one of this depth.
@@ -39,12 +41,15 @@ fn slot_below<L: Ledger>(arena: &Arena, head: Link, steps: &mut Steps<L>) -> Lin
 {
     let mut here = head;
     let mut slot = head;
-    while let Target::Node(index) = here.target() {
+    let mut depth = depth_at(arena, head);
+    while !here.is_leaf() {
         steps.tick();
-        let down = arena.element(index).right;
-        if depth_at(arena, down) + 1 < depth_at(arena, here) {
+        let down = arena.element(here.index()).right;
+        let below = depth_at(arena, down);
+        if below + 1 < depth {
             slot = down;
         }
+        depth = below;
         here = down;
     }
     slot

@@ -1,6 +1,6 @@
 -- What is known of a line without a fault.
 use Rattle.std.proofs.Common.{◌≡◌, ℕ, suc, zero, ◌≤◌, ◌<◌, Bool, true, false, cond, List, [], ◌∷◌, length, refl, sym, arith}
-use Rattle.std.specs.Prelude.{Option, Some, None, bytes_eq, not, ◌||◌, nat_lt, nat_le, slice_get}
+use Rattle.std.specs.Prelude.{Option, Some, None, is_none, bytes_eq, not, ◌||◌, nat_lt, nat_le, slice_get}
 use Rattle.std.specs.List.{list_any}
 use Rattle.std.proofs.lemmas.Option.{none-some}
 use Rattle.std.proofs.lemmas.Bool.{ltb-false, eqb-true}
@@ -8,7 +8,7 @@ use Rattle.std.proofs.lemmas.Bool.Decides.{nat_tests}
 use Rattle.step_tables.specs.declared.tables.TaskDef.{TaskDef}
 use Rattle.step_tables.specs.declared.progress.Progress.{Progress}
 use Rattle.step_tables.specs.Shapes.{TaskLine, RowLine, EventLine}
-use Rattle.step_tables.specs.Judging.{no_number, delay_no_number, place_no_number, first_fault, task_tests, row_tests, event_tests, place_outside, delay_outside, outside, value, unknown, order_name, due, promised, wrong_target, barred, last_round}
+use Rattle.step_tables.specs.Judging.{no_number, delay_no_number, place_no_number, first_fault, task_tests, row_tests, event_tests, place_outside, delay_outside, outside, value, unknown, named, order_name, due, promised, wrong_target, barred, last_round}
 
 -- no kind was found, so the first test does not hold, and no kind is found behind it
 pub passes : (b : Bool) (kind : ℕ) (rest : Option ℕ) → cond b (Some kind) rest ≡ None → (b ≡ false) × (rest ≡ None)
@@ -102,3 +102,12 @@ good_task p line e =
     let (place, more) = neither _ _ ranges in
     let (rows, few) = neither _ _ more in
     record { numbers = numbers; new = not_false _ names; place = place; rows = rows; few = few }
+
+-- the name of a good task line is that of no task
+pub good_name : (p : Progress) (line : TaskLine) → first_fault (task_tests p line) ≡ None → named p.tasks line.name ≡ None
+unfolding unknown
+good_name p line e = missing (named p.tasks line.name) (good_task p line e).new
+  where
+    missing : (found : Option ℕ) → is_none found ≡ true → found ≡ None
+    missing None h = refl
+    missing (Some i) h = absurd (cc)

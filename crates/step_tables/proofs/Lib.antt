@@ -30,3 +30,4 @@ pub mod ListViews
 pub mod Back
 pub mod Orders
 pub mod Length
+pub mod Indexed

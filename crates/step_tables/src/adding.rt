@@ -5,7 +5,8 @@ ghost use Rattle.step_tables.specs.Judging.{setting_tests, task_tests, row_tests
 ghost use Rattle.step_tables.specs.Views.{place_view, delay_view, task_view, row_view, event_view, said_view};
 
 use crate::judging::{least, most};
-use crate::lists::{Counts, Events, Name, Rows, Tasks};
+use crate::lists::{Counts, Events, Name, Rows};
+use crate::named_tasks::NamedTasks;
 use crate::names::{action_of, actions_of};
 use crate::progress::Progress;
 use crate::shapes::{EventLine, RowLine, Said, Setting, TaskLine};
@@ -31,11 +32,10 @@ fn task_of(alloc: Global, workers: u32, line: &TaskLine<'_>) -> Result<TaskDef, 
 #[tactic(auto, unfolding(crate::specs::Judging::row_of))]
 fn row_of(
     alloc: Global,
-    tasks: &[TaskDef],
+    tasks: &NamedTasks,
     count: u32,
     line: &RowLine<'_>,
 ) -> Result<Row, AllocError>
-    requires few { length tasks.now ≤ 4096 }
     requires expiry { delay_outside (delay_view line.now.delay) ≡ false }
     requires next { value line.now.next.now < count }
     ensures { IfOk result (λ row. row ≡ row_of tasks.now (row_view line.now)) }
@@ -49,9 +49,8 @@ fn row_of(
 
 /// The event that a good event line says, in a script of so many rounds.
 #[tactic(auto, unfolding(crate::specs::Judging::event_of))]
-fn event_of(tasks: &[TaskDef], rounds: u32, line: &EventLine<'_>) -> Event
-    requires few { length tasks.now ≤ 4096 }
-    requires round { value line.now.round.now < rounds }
+fn event_of(tasks: &NamedTasks, rounds: u32, line: &EventLine<'_>) -> Event
+    requires { value line.now.round.now < rounds }
     ensures { result ≡ event_of tasks.now (event_view line.now) }
 {
     Event {
@@ -73,7 +72,7 @@ impl Progress {
             start: 0,
             step: 0,
             rounds: 0,
-            tasks: Tasks::new(alloc),
+            tasks: NamedTasks::new(alloc),
             counts: Counts::new(alloc),
             at: 0,
             events: Events::new(alloc),
@@ -102,7 +101,7 @@ impl Progress {
         ensures { OnOk result (self.new ≡ with_task self.old (task_view line.now)) }
     {
         let task = task_of(alloc, self.workers, line)?;
-        self.tasks.push(task)?;
+        self.tasks.push(alloc, task)?;
         self.counts.push(number_within(1, 64, line.rows))
     }
 
@@ -125,7 +124,7 @@ impl Progress {
         ensures { OnOk result (self.new ≡ with_row self.old (due self.old) (row_of self.old.tasks (row_view line.now))) }
     {
         let is_last = self.is_last_row();
-        let row = row_of(alloc, self.tasks.as_slice(), self.promised(), line)?;
+        let row = row_of(alloc, &self.tasks, self.promised(), line)?;
         self.tasks.add_row(self.at, row)?;
         if is_last {
             self.at += 1;
@@ -136,11 +135,10 @@ impl Progress {
     /// Adds a good event line.
     #[tactic(auto, unfolding(crate::specs::Judging::with_event))]
     fn add_event(&mut self, line: &EventLine<'_>) -> Result<(), AllocError>
-        requires few { length self.old.tasks ≤ 4096 }
-        requires good { first_fault (event_tests self.old (event_view line.now)) ≡ None }
+        requires { first_fault (event_tests self.old (event_view line.now)) ≡ None }
         ensures { OnOk result (self.new ≡ with_event self.old (event_view line.now)) }
     {
-        let event = event_of(self.tasks.as_slice(), self.rounds, line);
+        let event = event_of(&self.tasks, self.rounds, line);
         self.events.push(event)
     }
 

@@ -136,14 +136,13 @@ impl Progress {
     fn task_fault(&self, line: &TaskLine<'_>) -> Option<u8>
         ensures { result ≡ first_fault (task_tests self.now (task_view line.now)) }
     {
-        let tasks = self.tasks.as_slice();
         if place_no_number(line.place) || no_number(line.rows) {
             Some(3)
-        } else if !unknown(tasks, line.name) {
+        } else if !unknown(&self.tasks, line.name) {
             Some(5)
         } else if place_outside(self.workers, line.place)
             || outside(1, 64, value(line.rows))
-            || tasks.len() >= 4096
+            || self.tasks.as_slice().len() >= 4096
         {
             Some(8)
         } else {
@@ -179,7 +178,7 @@ impl Progress {
     fn row_fault(&self, line: &RowLine<'_>) -> Option<u8>
         ensures { result ≡ first_fault (row_tests self.now (row_view line.now)) }
     {
-        let tasks = self.tasks.as_slice();
+        let tasks = &self.tasks;
         if no_number(line.number) || delay_no_number(line.delay) || no_number(line.next) {
             Some(3)
         } else if unknown(tasks, line.name) || any_unknown(tasks, &line.orders) {
@@ -203,7 +202,7 @@ impl Progress {
         let round = value(line.round);
         if no_number(line.round) {
             Some(3)
-        } else if is_unknown(self.tasks.as_slice(), &line.order) {
+        } else if is_unknown(&self.tasks, &line.order) {
             Some(4)
         } else if self.rounds as u64 <= round
             || events.len() >= 65_536

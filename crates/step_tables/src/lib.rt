@@ -7,6 +7,7 @@ mod first_form;
 mod judging;
 pub mod laws;
 mod lists;
+mod named_tasks;
 mod names;
 mod progress;
 mod reading;

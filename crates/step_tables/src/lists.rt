@@ -176,40 +176,6 @@ impl Tasks {
     }
 }
 
-impl Tasks {
-    ghost use Rattle.std.specs.Prelude.{slice_get, slice_set, ◌<◌, length};
-    ghost use Rattle.step_tables.specs.declared.tables.TaskDef.{TaskDef};
-    ghost use Rattle.step_tables.specs.Judging.{with_row_at_end};
-
-    /// No tasks.
-    pub(crate) fn new(alloc: Global) -> Tasks
-        ensures { result ≡ [] }
-    {
-        Tasks {
-            list: Vec::new(alloc),
-        }
-    }
-
-    /// One task more.
-    pub(crate) fn push(&mut self, task: TaskDef) -> Result<(), AllocError>
-        ensures { OnOk result (self.new ≡ self.old ++ task ∷ []) }
-    {
-        self.list.push(task)?;
-        Ok(())
-    }
-
-    /// One row more at the end of a task's rows.
-    #[tactic(auto, unfolding(crate::specs::Judging::with_row_at_end))]
-    pub(crate) fn add_row(&mut self, at: usize, row: Row) -> Result<(), AllocError>
-        requires { at < length self.old }
-        ensures { (task : TaskDef) → slice_get self.old at ≡ Some task
-            → OnOk result (self.new ≡ slice_set self.old at (with_row_at_end task row)) }
-    {
-        let task = &mut self.list[at];
-        task.rows.push(row)
-    }
-}
-
 /// The events of a script, in their order.
 #[derive(Debug, Drop)]
 pub struct Events {

@@ -1,11 +1,12 @@
 //! The names of tasks in the lines of a script.
 
-ghost use Rattle.std.specs.Prelude.{◌≡◌, ℕ, ◌<◌, ◌≤◌, map, length, bytes_eq, position, IfSome, IfOk};
+ghost use Rattle.std.specs.Prelude.{◌≡◌, map, bytes_eq, IfOk};
 ghost use Rattle.std.specs.List.{list_any};
-ghost use Rattle.step_tables.specs.Judging.{named, unknown, order_name, number_named, reasons_named, action_of};
+ghost use Rattle.step_tables.specs.Judging.{unknown, order_name, number_named, reasons_named, action_of};
 ghost use Rattle.step_tables.specs.Views.{order_view};
 
 use crate::lists::Actions;
+use crate::named_tasks::NamedTasks;
 use crate::shapes::Order;
 use crate::tables::{Action, TaskDef};
 use crate::words::reasons_of;
@@ -19,33 +20,20 @@ pub(crate) fn is_named(task: &TaskDef, name: &[u8]) -> bool
     task.name.as_slice() == name
 }
 
-/// The number of the task of this name.
-#[tactic(auto, unfolding(crate::specs::Judging::named))]
-fn named(tasks: &[TaskDef], name: &[u8]) -> Option<usize>
-    ensures same { result ≡ named tasks.now name.now }
-    ensures below { IfSome result (λ i. i < length tasks.now) }
-{
-    tasks.iter().position(|task| is_named(task, name))
-}
-
 /// Whether no task has this name.
 #[tactic(auto, unfolding(crate::specs::Judging::unknown))]
-pub(crate) fn unknown(tasks: &[TaskDef], name: &[u8]) -> bool
+pub(crate) fn unknown(tasks: &NamedTasks, name: &[u8]) -> bool
     ensures { result ≡ unknown tasks.now name.now }
 {
-    named(tasks, name).is_none()
+    tasks.find(name).is_none()
 }
 
 /// The number of the task of this name, where there is one, else 0.
 #[tactic(auto, unfolding(crate::specs::Judging::number_named))]
-fn number_named(tasks: &[TaskDef], name: &[u8]) -> u32
-    requires { length tasks.now ≤ 4096 }
+fn number_named(tasks: &NamedTasks, name: &[u8]) -> u32
     ensures { result ≡ number_named tasks.now name.now }
 {
-    match named(tasks, name) {
-        None => 0,
-        Some(i) => i as u32,
-    }
+    tasks.find(name).unwrap_or(0)
 }
 
 /// The name in an action.
@@ -59,21 +47,21 @@ fn order_name<'a>(order: &Order<'a>) -> &'a [u8]
 }
 
 /// Whether the action's name is that of no task.
-pub(crate) fn is_unknown(tasks: &[TaskDef], order: &Order<'_>) -> bool
+pub(crate) fn is_unknown(tasks: &NamedTasks, order: &Order<'_>) -> bool
     ensures { result ≡ unknown tasks.now (order_name (order_view order.now)) }
 {
     unknown(tasks, order_name(order))
 }
 
 /// Whether some action's name is that of no task.
-fn holds_unknown(tasks: &[TaskDef], orders: &[Order<'_>]) -> bool
+fn holds_unknown(tasks: &NamedTasks, orders: &[Order<'_>]) -> bool
     ensures { result ≡ list_any (λ order. unknown tasks.now (order_name (order_view order))) orders.now }
 {
     orders.iter().any(|order| is_unknown(tasks, order))
 }
 
 /// Whether some action's name is that of no task.
-pub(crate) fn any_unknown(tasks: &[TaskDef], orders: &[Order<'_>]) -> bool
+pub(crate) fn any_unknown(tasks: &NamedTasks, orders: &[Order<'_>]) -> bool
     ensures { result ≡ list_any (λ order. unknown tasks.now (order_name order)) (map order_view orders.now) }
 {
     holds_unknown(tasks, orders)
@@ -92,8 +80,7 @@ fn reasons_named(list: &[u8]) -> Reasons
 
 /// The action, with its task's number.
 #[tactic(auto, unfolding(crate::specs::Judging::action_of))]
-pub(crate) fn action_of(tasks: &[TaskDef], order: &Order<'_>) -> Action
-    requires { length tasks.now ≤ 4096 }
+pub(crate) fn action_of(tasks: &NamedTasks, order: &Order<'_>) -> Action
     ensures { result ≡ action_of tasks.now (order_view order.now) }
 {
     match *order {
@@ -107,10 +94,9 @@ pub(crate) fn action_of(tasks: &[TaskDef], order: &Order<'_>) -> Action
 /// The actions, with their tasks' numbers.
 fn resolved(
     alloc: Global,
-    tasks: &[TaskDef],
+    tasks: &NamedTasks,
     orders: &[Order<'_>],
 ) -> Result<Vec<Action>, AllocError>
-    requires { length tasks.now ≤ 4096 }
     ensures { IfOk result (λ actions. actions.items ≡ map (λ order. action_of tasks.now (order_view order)) orders.now) }
 {
     orders
@@ -122,10 +108,9 @@ fn resolved(
 /// The actions, with their tasks' numbers.
 pub(crate) fn actions_of(
     alloc: Global,
-    tasks: &[TaskDef],
+    tasks: &NamedTasks,
     orders: &[Order<'_>],
 ) -> Result<Actions, AllocError>
-    requires { length tasks.now ≤ 4096 }
     ensures { IfOk result (λ actions. actions ≡ map (action_of tasks.now) (map order_view orders.now)) }
 {
     let list = resolved(alloc, tasks, orders)?;

@@ -1,6 +1,7 @@
 //! What the lines of a script have said so far.
 
-use crate::lists::{Counts, Events, Tasks};
+use crate::lists::{Counts, Events};
+use crate::named_tasks::NamedTasks;
 use std::alloc::AllocError;
 
 /// Why a line is refused.
@@ -31,7 +32,7 @@ pub(crate) struct Progress {
     pub step: u32,
     pub rounds: u32,
     /// The tasks, with the rows that have come.
-    pub tasks: Tasks,
+    pub tasks: NamedTasks,
     /// How many rows each task's line promised.
     pub counts: Counts,
     /// The number of the task whose rows come now.

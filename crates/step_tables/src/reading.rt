@@ -140,7 +140,7 @@ impl Progress {
             start: self.start,
             step: self.step,
             rounds: self.rounds,
-            tasks: self.tasks,
+            tasks: self.tasks.into_tasks(),
             events: self.events,
         })
     }

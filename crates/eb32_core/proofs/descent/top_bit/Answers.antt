@@ -1,10 +1,18 @@
-use Rattle.std.proofs.Common.{◌<◌, ◌^◌, rules}
-use Rattle.eb32_core.proofs.Landings.{NextBit, next_bit}
+use Rattle.std.proofs.Common.{◌≡◌, ◌+◌, ◌-◌, ◌^◌, ◌<◌, ◌≤◌, arith, rules}
+use Rattle.std.specs.Int.Bits.{bit_xor}
+use Rattle.std.specs.Int.Count.{count_leading_zeros}
+use Rattle.eb32_core.proofs.HighestBit.{highest_bit, zeros_before}
 use Rattle.eb32_core.proofs.descent.top_bit.Goals as goal
 
-pub loop-own_above-preserved : goal.loop-own_above-preserved
-loop-own_above-preserved c =
+pub overflow_sub-result : goal.overflow_sub-result
+overflow_sub-result c =
     let fo : c.args.own < 2 ^ 32 = search rules in
     let fk : c.args.key < 2 ^ 32 = search rules in
-    let n : NextBit c.args.own c.args.key c.loop-own_above.bit c.loop-own_above.own_above c.loop-own_above.key_above = next_bit _ _ _ _ _ fo fk c.loop-own_above.invariant.own_is c.loop-own_above.invariant.key_is c.loop-own_above-test.true in
-    record { own_is = n.own_is; key_is = n.key_is; differ = n.differ; small = n.small }
+    zeros_before c.args.own c.args.key fo fk c.requires
+
+pub returns : goal.returns
+returns c =
+    let fo : c.args.own < 2 ^ 32 = search rules in
+    let fk : c.args.key < 2 ^ 32 = search rules in
+    let z : count_leading_zeros 32 (bit_xor c.args.own c.args.key) ≤ 31 = zeros_before c.args.own c.args.key fo fk c.requires in
+    highest_bit c.args.own c.args.key (31 - count_leading_zeros 32 (bit_xor c.args.own c.args.key)) fo fk c.requires (omega (arith, z))

@@ -1,27 +1,23 @@
-use Rattle.std.proofs.Common.{◌≡◌, suc, sym, ap, ◌∙◌, subst, arith}
-use Rattle.eb_arena.specs.Parts.{element_at}
-use Rattle.eb_dups.specs.Spine.{depth_of}
-use Rattle.eb_dups.proofs.Descent.{Spot, Walk, walk_start, walk_end, spot}
+use Rattle.std.proofs.Common.{◌≡◌, ap}
+use Rattle.eb_arena.specs.declared.links.Target.TheVariants as targets
+use Rattle.eb_arena.proofs.LeafOrNode.{node_is, leaf_is_no_node}
+use Rattle.eb_dups.proofs.Descent.{SpineStep, walk_start, walk_end, here_some, step_down}
 use Rattle.eb_dups.proofs.twins.slot_below.Goals as goal
 
-pub loop-index-init : goal.loop-index-init
-loop-index-init g c = walk_start c.args.arena.now c.args.head c.requires
+pub loop-here-init : goal.loop-here-init
+loop-here-init g c = record { walk = walk_start c.args.arena.now c.args.head c.requires; deep = c.depth_at-depth.ensures }
 
-pub loop-index-preserved-then-depth_at : goal.loop-index-preserved-then-depth_at
-loop-index-preserved-then-depth_at g c =
-    let s : Spot c.args.arena.now c.args.head c.loop-index.slot c.in-Node.index = spot _ _ _ _ _ c.loop-index.invariant c.in-Node.ensures in
-    let e : c.element-down.result.right ≡ (element_at c.args.arena.now c.in-Node.index).right = ap (λ x. x.right) c.element-down.ensures in
-    let d : depth_of c.args.arena.now c.element-down.result.right ≡ depth_of c.args.arena.now (element_at c.args.arena.now c.in-Node.index).right = ap (depth_of c.args.arena.now) e in
-    let h : depth_of c.args.arena.now c.loop-index.here ≡ suc s.n = ap (depth_of c.args.arena.now) (sym c.in-Node.ensures) ∙ s.here_depth in
-    subst (λ t. Walk c.args.arena.now c.args.head t t) (sym e) (s.slot_down (omega (arith, c.if-depth_at.true, c.depth_at.ensures, c.depth_at-in-Node.ensures, d, h)))
+pub loop-here-preserved-then-below-depth : goal.loop-here-preserved-then-below-depth
+loop-here-preserved-then-below-depth g c =
+    let n : targets.Node c.index.result ≡ c.loop-here.here = node_is _ _ _ (here_some _ _ _ _ c.loop-here.invariant.walk) c.is_leaf.ensures c.loop-here-test.true c.index.ensures in
+    let s : SpineStep c.args.arena.now c.args.head c.loop-here.slot c.element-down.result.right c.loop-here.depth c.depth_at-below.result = step_down _ _ _ _ _ _ _ _ c.loop-here.invariant.walk n (ap (λ x. x.right) c.element-down.ensures) c.loop-here.invariant.deep c.depth_at-below.ensures in
+    record { walk = s.slot_down c.if-below-depth.true; deep = c.depth_at-below.ensures }
 
-pub loop-index-preserved : goal.loop-index-preserved
-loop-index-preserved g c =
-    let s : Spot c.args.arena.now c.args.head c.loop-index.slot c.in-Node.index = spot _ _ _ _ _ c.loop-index.invariant c.in-Node.ensures in
-    let e : c.element-down.result.right ≡ (element_at c.args.arena.now c.in-Node.index).right = ap (λ x. x.right) c.element-down.ensures in
-    let d : depth_of c.args.arena.now c.element-down.result.right ≡ depth_of c.args.arena.now (element_at c.args.arena.now c.in-Node.index).right = ap (depth_of c.args.arena.now) e in
-    let h : depth_of c.args.arena.now c.loop-index.here ≡ suc s.n = ap (depth_of c.args.arena.now) (sym c.in-Node.ensures) ∙ s.here_depth in
-    subst (Walk c.args.arena.now c.args.head c.loop-index.slot) (sym e) (s.slot_stays (λ lt. omega (arith, c.if-depth_at.false, c.depth_at.ensures, c.depth_at-in-Node.ensures, d, h, lt)))
+pub loop-here-preserved : goal.loop-here-preserved
+loop-here-preserved g c =
+    let n : targets.Node c.index.result ≡ c.loop-here.here = node_is _ _ _ (here_some _ _ _ _ c.loop-here.invariant.walk) c.is_leaf.ensures c.loop-here-test.true c.index.ensures in
+    let s : SpineStep c.args.arena.now c.args.head c.loop-here.slot c.element-down.result.right c.loop-here.depth c.depth_at-below.result = step_down _ _ _ _ _ _ _ _ c.loop-here.invariant.walk n (ap (λ x. x.right) c.element-down.ensures) c.loop-here.invariant.deep c.depth_at-below.ensures in
+    record { walk = s.slot_stays c.if-below-depth.false; deep = c.depth_at-below.ensures }
 
 pub returns : goal.returns
-returns g c = walk_end c.args.arena.now c.args.head c.loop-index.slot c.loop-index.here c.loop-index.invariant (λ i e. c.in_default.not-Node i (c.target.ensures ∙ e))
+returns g c = walk_end c.args.arena.now c.args.head c.loop-here.slot c.loop-here.here c.loop-here.invariant.walk (leaf_is_no_node _ _ c.is_leaf.ensures c.loop-here-test.false)

@@ -1,12 +1,13 @@
 use Rattle.std.proofs.Common.{◌≡◌, ◌+◌, ◌<◌, ◌^◌, set, length, slice_index, sym, ap, ◌∙◌, subst}
 use Rattle.std.proofs.lemmas.List.{get_or_default}
-use Rattle.sched_base.specs.KeyedList.{inserted_into}
+use Rattle.sched_base.specs.KeyedList.{inserted_into, IsFree}
 use Rattle.eb_arena.specs.declared.links.Place.TheVariants as places
 use Rattle.eb_arena.specs.declared.element.Element.{Element}
 use Rattle.eb_arena.specs.Parts.{element_at, with_element}
 use Rattle.eb32_core.specs.Forest.{Grove, IsTended, seen_of}
 use Rattle.eb32_core.specs.Planted.{Plants, IsRoomy}
-use Rattle.eb32_core.proofs.Groves.{Inserted, keyed, roomy, inserted_grove}
+use Rattle.eb32_core.proofs.Groves.{Inserted, keyed, key_leaf, roomy, inserted_grove}
+use Rattle.eb32_core.proofs.Standing.{tended, free_nowhere}
 use Rattle.eb32_core.proofs.forest.Forest.insert.Goals as goal
 
 pub plant-requires-clause-roomy : goal.plant-requires-clause-roomy
@@ -16,9 +17,18 @@ plant-requires-clause-roomy g c =
     let se : c.set.new.self ≡ keyed c.self.inside.arena c.args.entry c.args.key = c.set.ensures ∙ ap (λ (el : Element). with_element c.self.inside.arena c.args.entry (record el { key = c.args.key })) c.element-element.ensures in
     let r : c.args.root < length f.parts.links = subst (λ x. c.args.root < length x.parts.links) (sym v) c.requires.root_exists in
     let e : c.args.entry < length f.parts.elements = subst (λ x. c.args.entry < length x.parts.elements) (sym v) c.requires.entry_exists in
-    let n : (element_at f.parts c.args.entry).leaf_p ≡ places.Nowhere = subst (λ x. (element_at x.parts c.args.entry).leaf_p ≡ places.Nowhere) (sym v) c.requires.free in
+    let n : (element_at f.parts c.args.entry).leaf_p ≡ places.Nowhere = free_nowhere f c.args.entry (tended f c.self.invariant) e (subst (λ x. IsFree c.args.entry (seen_of x)) (sym v) c.requires.free) in
     let m : slice_index f.made c.args.root + 1 < 2 ^ 63 = subst (λ x. slice_index x.made c.args.root + 1 < 2 ^ 63) (sym v) c.requires.room in
     subst (λ z. IsRoomy z c.args.root) (sym se) (roomy f c.args.root c.args.entry c.args.key c.self.invariant r e n m)
+
+pub plant-requires-clause-free : goal.plant-requires-clause-free
+plant-requires-clause-free g c =
+    let f : Grove = record { parts = c.self.inside.arena; made = c.self.inside.made.items } in
+    let v : f ≡ c.args.self.now = c.self.view_is in
+    let se : c.set.new.self ≡ keyed c.self.inside.arena c.args.entry c.args.key = c.set.ensures ∙ ap (λ (el : Element). with_element c.self.inside.arena c.args.entry (record el { key = c.args.key })) c.element-element.ensures in
+    let e : c.args.entry < length f.parts.elements = subst (λ x. c.args.entry < length x.parts.elements) (sym v) c.requires.entry_exists in
+    let n : (element_at f.parts c.args.entry).leaf_p ≡ places.Nowhere = free_nowhere f c.args.entry (tended f c.self.invariant) e (subst (λ x. IsFree c.args.entry (seen_of x)) (sym v) c.requires.free) in
+    subst (λ z. (element_at z c.args.entry).leaf_p ≡ places.Nowhere) (sym se) (key_leaf f.parts c.args.entry c.args.key c.args.entry e ∙ n)
 
 pub invariant_of-self : goal.invariant_of-self
 invariant_of-self g c =
@@ -27,7 +37,7 @@ invariant_of-self g c =
     let se : c.set.new.self ≡ keyed c.self.inside.arena c.args.entry c.args.key = c.set.ensures ∙ ap (λ (el : Element). with_element c.self.inside.arena c.args.entry (record el { key = c.args.key })) c.element-element.ensures in
     let r : c.args.root < length f.parts.links = subst (λ x. c.args.root < length x.parts.links) (sym v) c.requires.root_exists in
     let e : c.args.entry < length f.parts.elements = subst (λ x. c.args.entry < length x.parts.elements) (sym v) c.requires.entry_exists in
-    let n : (element_at f.parts c.args.entry).leaf_p ≡ places.Nowhere = subst (λ x. (element_at x.parts c.args.entry).leaf_p ≡ places.Nowhere) (sym v) c.requires.free in
+    let n : (element_at f.parts c.args.entry).leaf_p ≡ places.Nowhere = free_nowhere f c.args.entry (tended f c.self.invariant) e (subst (λ x. IsFree c.args.entry (seen_of x)) (sym v) c.requires.free) in
     let i : Inserted f (record { parts = c.plant.new.arena; made = set f.made c.args.root (slice_index f.made c.args.root + 1) }) c.args.root c.args.entry c.args.key = inserted_grove f c.plant.new.arena c.args.root c.args.entry c.args.key c.self.invariant r e n (subst (λ a. Plants a c.plant.new.arena c.args.root c.args.entry) se c.plant.ensures) in
     let rm : c.args.root < length f.made = subst (λ y. c.args.root < y) (sym c.self.invariant.counts) r in
     let x : c.index_mut.result.now ≡ slice_index f.made c.args.root = c.index_mut.ensures.value ∙ get_or_default f.made c.args.root c.index_mut.result.now 0 rm in
@@ -40,7 +50,7 @@ returns g c =
     let se : c.set.new.self ≡ keyed c.self.inside.arena c.args.entry c.args.key = c.set.ensures ∙ ap (λ (el : Element). with_element c.self.inside.arena c.args.entry (record el { key = c.args.key })) c.element-element.ensures in
     let r : c.args.root < length f.parts.links = subst (λ x. c.args.root < length x.parts.links) (sym v) c.requires.root_exists in
     let e : c.args.entry < length f.parts.elements = subst (λ x. c.args.entry < length x.parts.elements) (sym v) c.requires.entry_exists in
-    let n : (element_at f.parts c.args.entry).leaf_p ≡ places.Nowhere = subst (λ x. (element_at x.parts c.args.entry).leaf_p ≡ places.Nowhere) (sym v) c.requires.free in
+    let n : (element_at f.parts c.args.entry).leaf_p ≡ places.Nowhere = free_nowhere f c.args.entry (tended f c.self.invariant) e (subst (λ x. IsFree c.args.entry (seen_of x)) (sym v) c.requires.free) in
     let i : Inserted f (record { parts = c.plant.new.arena; made = set f.made c.args.root (slice_index f.made c.args.root + 1) }) c.args.root c.args.entry c.args.key = inserted_grove f c.plant.new.arena c.args.root c.args.entry c.args.key c.self.invariant r e n (subst (λ a. Plants a c.plant.new.arena c.args.root c.args.entry) se c.plant.ensures) in
     let rm : c.args.root < length f.made = subst (λ y. c.args.root < y) (sym c.self.invariant.counts) r in
     let x : c.index_mut.result.now ≡ slice_index f.made c.args.root = c.index_mut.ensures.value ∙ get_or_default f.made c.args.root c.index_mut.result.now 0 rm in

@@ -1,0 +1,4 @@
+use Rattle.eb32_core.proofs.tests.deletes_the_second_of_four_equal_keys.Given as goal
+
+abbrev pub ghosts-filled_without : goal.ghosts-filled_without
+ghosts-filled_without g a = record { name = a.blank.name; parts = a.blank.parts }

@@ -1,0 +1,33 @@
+//! One node of a tree in the place of another.
+
+ghost use Rattle.std.specs.Prelude.{◌≡◌, ◌≢◌, ◌<◌, length};
+ghost use Rattle.eb_arena.specs.Parts.{element_at};
+ghost use Rattle.eb_arena.specs.declared.links.Place.TheVariants as places;
+ghost use Rattle.eb32_core.specs.Removal.{MayReplace, Replaces};
+
+use eb_arena::{Arena, Link, Side, Up};
+use sched_base::Steps;
+use std::sync::ledger::Ledger;
+
+/// Puts the unused node of the heir in the place of the node of an entry that was taken out, which
+/// is free afterwards. One step is one element that is visited: that of the entry, of both sides of
+/// its node, and what is above it.
+pub(crate) fn replace<L: Ledger>(arena: &mut Arena, entry: u32, heir: u32, steps: &mut Steps<L>)
+    requires may { MayReplace arena.old entry heir }
+    requires used { (element_at arena.old entry).node_p ≢ places.Nowhere }
+    ensures { Replaces arena.old arena.new entry heir }
+{
+    let node = arena.element(entry);
+    arena.hang(node.left, Up::new(heir, Side::Left));
+    arena.hang(node.right, Up::new(heir, Side::Right));
+    arena.hang(Link::node(entry), Up::NONE);
+    let mut element = node;
+    let own = arena.element(heir);
+    element.leaf_p = own.leaf_p;
+    element.key = own.key;
+    arena.set(heir, element);
+    arena.put_link(node.node_p, Link::node(heir));
+    for _ in 0..4u32 {
+        steps.tick();
+    }
+}
