@@ -216,3 +216,13 @@ free_is s e o h n q x =
       | inl k ↦ absurd (false≢true (sym n ∙ ap is_some (h q (record { exists = x; held = k }))))
       | inr k ↦ k
     ]
+
+some_held : (a : Parts) (q e : ℕ) (o : Option Tree) → IsRoot a q o → IsSomeAnd o (HasLeaf e) → list_any (is_entry e) (list_of a q) ≡ true
+some_held a q e None r h = absurd h
+some_held a q e (Some t) r h = ap (list_any (is_entry e)) (list_of_is a q (Some t) r) ∙ leaf_held e t h
+
+-- an entry in a tree stands in a root
+pub in_placed : (f : Grove) (e : ℕ) → Stood f → IsIn f.parts e → IsPlaced e (seen_of f)
+in_placed f e s h =
+    let x : InSome f.parts s.shape.0 (HasLeaf e) = s.shape.1.leaves e h.0 h.1 in
+    (x.0, stands f x.0 e s x.1.0 (some_held f.parts x.0 e (s.shape.0 x.0) (s.shape.1.roots x.0 x.1.0) x.1.1))

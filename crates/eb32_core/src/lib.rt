@@ -4,6 +4,7 @@
 mod descent;
 mod forest;
 mod keyed;
+pub mod laws;
 mod planting;
 mod removal;
 mod replacing;

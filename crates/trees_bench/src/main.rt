@@ -1,16 +1,15 @@
-//! Times the calls of a forest. Its words are a name, a number of entries and a mask for their
-//! keys, any number of times; for each it writes a line of the nanoseconds that one call takes, the
-//! best of five rounds.
+//! Times the calls of a forest. The words of the command are a name, a number of entries and a mask
+//! for their keys, any number of times. For each three it writes a line with the nanoseconds that
+//! one call of each kind takes, the best of five rounds.
 #![tactic(auto)]
 
 mod rounds;
 mod work;
 
-use rounds::{measure, Times};
-use std::env;
-use std::io;
+use rounds::{Times, measure};
 use std::marker::Brand;
 use std::sync::ledger::Blank;
+use std::{env, io};
 
 /// The best times for so many entries.
 fn best(rt: &HostRuntime, entries: u32, mask: u32) -> io::Result<Times> {

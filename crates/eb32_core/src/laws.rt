@@ -1,0 +1,15 @@
+//! What holds of every forest, as functions that do nothing and whose contracts are the laws.
+
+ghost use Rattle.sched_base.specs.KeyedList.{IsPlaced};
+ghost use Rattle.eb32_walk.specs.Ends.{IsIn};
+ghost use Rattle.eb32_core.specs.Forest.{seen_of};
+
+use crate::forest::Forest;
+
+/// What is in a tree of the arena stands in a root, so an entry that a walk found may be deleted.
+pub fn trees_stand_in_roots(forest: &Forest, entry: u32)
+    requires { IsIn forest.now.parts entry }
+    ensures { IsPlaced entry (seen_of forest.now) }
+{
+    let _arena = forest.arena();
+}
