@@ -110,7 +110,11 @@ fn at_or_after(arena: &Arena, key: u32) -> Option<u32>
     if arena.roots() == 0 {
         return None;
     }
-    lookup_ge(arena, 0, key).or(first(arena, 0))
+    if let Some(entry) = lookup_ge(arena, 0, key) {
+        return Some(entry);
+    }
+    let entry = first(arena, 0)?;
+    Some(entry)
 }
 
 /// Like timers: takes the first entry at or after a moving point, and puts it back a little later,
