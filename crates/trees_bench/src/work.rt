@@ -105,16 +105,15 @@ pub(crate) fn look_up(arena: &Arena, mask: u32, draws: &mut Draws) -> u32
 /// The first entry with at least this key, or else the first of all.
 fn at_or_after(arena: &Arena, key: u32) -> Option<u32>
     requires { HasShape arena.now }
-    ensures { IfSome result (λ entry. entry < length arena.now.elements) }
+    ensures { IfSome result (IsIn arena.now) }
 {
     if arena.roots() == 0 {
         return None;
     }
-    if let Some(entry) = lookup_ge(arena, 0, key) {
-        return Some(entry);
+    match lookup_ge(arena, 0, key) {
+        Some(entry) => Some(entry),
+        None => first(arena, 0),
     }
-    let entry = first(arena, 0)?;
-    Some(entry)
 }
 
 /// Like timers: takes the first entry at or after a moving point, and puts it back a little later,
