@@ -150,7 +150,10 @@ fn keeps_four_equal_keys(rt: HostRuntime) -> Result<(), Fail> {
 fn keeps_keys_in_order(rt: HostRuntime) -> Result<(), Fail> {
     let forest = filled::<Brand>(rt.alloc(), Blank::new(1), &[4, 6, 5])?.ok_or("filled")?;
     let arena = forest.arena();
-    assert_eq!(rt; order(rt.alloc(), arena, 0)?.as_slice(), [0, 2, 1].as_slice());
+    assert_eq!(rt;
+        order(rt.alloc(), arena, 0)?.as_slice(),
+        [0, 2, 1].as_slice()
+    );
     assert_eq!(rt; arena.roots(), 1);
     assert_eq!(rt; lookup_ge(arena, 0, 5), Some(2));
     assert_eq!(rt; lookup_ge(arena, 0, 7), None);
@@ -174,7 +177,10 @@ fn keeps_a_short_spine(rt: HostRuntime) -> Result<(), Fail> {
     Ok(())
 }
 
-/// The same without one of the entries.
+/// Four equal keys.
+const FIVES: [u32; 4] = [5; 4];
+
+/// A forest of one root with these keys, without one of the entries.
 fn filled_without<L: Ledger>(
     alloc: Global,
     blank: Blank,
@@ -197,50 +203,58 @@ fn filled_without<L: Ledger>(
 
 #[test]
 fn deletes_the_first_of_four_equal_keys(rt: HostRuntime) -> Result<(), Fail> {
-    let forest = filled_without::<Brand>(rt.alloc(), Blank::new(1), &[5, 5, 5, 5], 0)?
-        .ok_or("filled")?;
+    let forest = filled_without::<Brand>(rt.alloc(), Blank::new(1), &FIVES, 0)?.ok_or("filled")?;
     let arena = forest.arena();
     assert_eq!(rt; arena.entries(), 4);
     assert_eq!(rt; arena.element(2).left, Link::leaf(1));
     assert_eq!(rt; arena.element(1).leaf_p.number(), 4);
     assert!(rt; arena.element(1).node_p.is_none());
-    assert_eq!(rt; order(rt.alloc(), arena, 0)?.as_slice(), [1, 2, 3].as_slice());
+    assert_eq!(rt;
+        order(rt.alloc(), arena, 0)?.as_slice(),
+        [1, 2, 3].as_slice()
+    );
     Ok(())
 }
 
 #[test]
 fn deletes_the_second_of_four_equal_keys(rt: HostRuntime) -> Result<(), Fail> {
-    let forest = filled_without::<Brand>(rt.alloc(), Blank::new(1), &[5, 5, 5, 5], 1)?
-        .ok_or("filled")?;
+    let forest = filled_without::<Brand>(rt.alloc(), Blank::new(1), &FIVES, 1)?.ok_or("filled")?;
     let arena = forest.arena();
     assert_eq!(rt; arena.entries(), 4);
     assert!(rt; arena.element(1).node_p.is_none());
     assert_eq!(rt; arena.element(2).left.number(), 0);
-    assert_eq!(rt; order(rt.alloc(), arena, 0)?.as_slice(), [0, 2, 3].as_slice());
+    assert_eq!(rt;
+        order(rt.alloc(), arena, 0)?.as_slice(),
+        [0, 2, 3].as_slice()
+    );
     Ok(())
 }
 
 #[test]
 fn deletes_the_entry_of_the_top_node(rt: HostRuntime) -> Result<(), Fail> {
-    let forest = filled_without::<Brand>(rt.alloc(), Blank::new(1), &[5, 5, 5, 5], 2)?
-        .ok_or("filled")?;
+    let forest = filled_without::<Brand>(rt.alloc(), Blank::new(1), &FIVES, 2)?.ok_or("filled")?;
     let arena = forest.arena();
     assert_eq!(rt; (arena.entries(), arena.roots()), (4, 1));
     assert_eq!(rt; arena.root(0).number(), 7);
     let top = arena.element(3);
     assert_eq!(rt; top.bit, -2);
-    assert_eq!(rt; (top.left.number(), top.right.number(), top.node_p.number()), (3, 6, 8));
+    assert_eq!(rt;
+        (top.left.number(), top.right.number(), top.node_p.number()),
+        (3, 6, 8)
+    );
     assert_eq!(rt; arena.element(1).node_p.number(), 6);
     assert_eq!(rt; arena.element(3).leaf_p.number(), 7);
     assert_eq!(rt; forest.is_in(2), None);
-    assert_eq!(rt; order(rt.alloc(), arena, 0)?.as_slice(), [0, 1, 3].as_slice());
+    assert_eq!(rt;
+        order(rt.alloc(), arena, 0)?.as_slice(),
+        [0, 1, 3].as_slice()
+    );
     Ok(())
 }
 
 #[test]
 fn deletes_the_only_entry(rt: HostRuntime) -> Result<(), Fail> {
-    let forest =
-        filled_without::<Brand>(rt.alloc(), Blank::new(1), &[5], 0)?.ok_or("filled")?;
+    let forest = filled_without::<Brand>(rt.alloc(), Blank::new(1), &[5], 0)?.ok_or("filled")?;
     let arena = forest.arena();
     assert_eq!(rt; arena.roots(), 1);
     assert!(rt; arena.root(0).is_none());
@@ -356,11 +370,21 @@ fn history<K: KeyedLists>(
 #[test]
 fn keeps_two_roots_apart(rt: HostRuntime) -> Result<(), Fail> {
     let mut forest = Forest::new(rt.alloc(), 2, 6)?;
-    let rows = [(0, 0, 7), (1, 1, 3), (0, 2, 7), (1, 3, 9), (0, 4, 1), (1, 1, 3)];
+    let rows = [
+        (0, 0, 7),
+        (1, 1, 3),
+        (0, 2, 7),
+        (1, 3, 9),
+        (0, 4, 1),
+        (1, 1, 3),
+    ];
     toggle_all(&mut forest, rows.as_slice());
     assert_eq!(rt; forest.arena().roots(), 2);
     for (root, entries) in [(0, [4, 0, 2].as_slice()), (1, [3].as_slice())] {
-        assert_eq!(rt; order(rt.alloc(), forest.arena(), root)?.as_slice(), entries);
+        assert_eq!(rt;
+            order(rt.alloc(), forest.arena(), root)?.as_slice(),
+            entries
+        );
     }
     let of_four = Answers {
         first: Some(3),
