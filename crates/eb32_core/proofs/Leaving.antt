@@ -1,10 +1,10 @@
 -- A forest after a deletion.
-use Rattle.std.proofs.Common.{◌≡◌, ℕ, ◌+◌, ◌<◌, inl, inr, length, get_or, set, not, refl, sym, ap, ◌∙◌, subst, arith}
+use Rattle.std.proofs.Common.{◌≡◌, ℕ, ◌+◌, ◌<◌, inl, inr, length, set, not, sym, ap, ◌∙◌, subst, arith}
 use Rattle.std.specs.Prelude.{Option, IsSomeAnd, slice_index}
 use Rattle.std.specs.List.{filter}
 use Rattle.std.proofs.lemmas.Bool.{cases_eq}
 use Rattle.std.proofs.lemmas.List.{set-get_or}
-use Rattle.sched_base.specs.KeyedList.{KeyedList, KeyedRoots, StandsIn, IsPlaced, is_entry, root_at, without_entry, deleted_from}
+use Rattle.sched_base.specs.KeyedList.{KeyedRoots, StandsIn, IsPlaced, is_entry, root_at, without_entry, deleted_from}
 use Rattle.eb_arena.specs.Parts.{Parts}
 use Rattle.eb_arena.specs.Shape.{Tree, items_of, HasLeaf, list_of}
 use Rattle.eb_arena.proofs.Reading.{list_of_is}

@@ -39,7 +39,7 @@ impl Forest {
     /// 2,147,483,647 together.
     pub fn new(alloc: Global, roots: u32, entries: u32) -> Result<Forest, AllocError>
         requires { roots + entries < 2147483647 }
-        ensures unused { IfOk result (λ f. f ≡ record { parts = record { elements = replicate entries unused; links = replicate roots targets.Nothing }; made = replicate roots 0 }) }
+        ensures parts { IfOk result (λ f. f ≡ record { parts = record { elements = replicate entries unused; links = replicate roots targets.Nothing }; made = replicate roots 0 }) }
         ensures empty { IfOk result (λ f. seen_of f ≡ record { roots = replicate roots blank; entries = entries }) }
     {
         let arena = Arena::with_capacity(alloc, roots, entries)?;

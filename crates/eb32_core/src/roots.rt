@@ -1,6 +1,6 @@
 //! The root in whose list an entry stands.
 
-ghost use Rattle.std.specs.Prelude.{◌≡◌, ◌≢◌, ◌<◌, true, length};
+ghost use Rattle.std.specs.Prelude.{◌≡◌, ◌<◌, true, length};
 ghost use Rattle.std.specs.List.{list_any};
 ghost use Rattle.sched_base.specs.KeyedList.{is_entry};
 ghost use Rattle.eb_arena.specs.Shape.{HasShape, list_of};

@@ -177,7 +177,10 @@ fn keeps_a_short_spine(rt: HostRuntime) -> Result<(), Fail> {
     Ok(())
 }
 
-/// The same without one of the entries.
+/// Four equal keys.
+const FIVES: [u32; 4] = [5; 4];
+
+/// A forest of one root with these keys, without one of the entries.
 fn filled_without<L: Ledger>(
     alloc: Global,
     blank: Blank,
@@ -200,9 +203,7 @@ fn filled_without<L: Ledger>(
 
 #[test]
 fn deletes_the_first_of_four_equal_keys(rt: HostRuntime) -> Result<(), Fail> {
-    let forest = filled_without::<Brand>(rt.alloc(), Blank::new(1), &[5, 5, 5, 5], 0)?.ok_or(
-        "filled",
-    )?;
+    let forest = filled_without::<Brand>(rt.alloc(), Blank::new(1), &FIVES, 0)?.ok_or("filled")?;
     let arena = forest.arena();
     assert_eq!(rt; arena.entries(), 4);
     assert_eq!(rt; arena.element(2).left, Link::leaf(1));
@@ -217,9 +218,7 @@ fn deletes_the_first_of_four_equal_keys(rt: HostRuntime) -> Result<(), Fail> {
 
 #[test]
 fn deletes_the_second_of_four_equal_keys(rt: HostRuntime) -> Result<(), Fail> {
-    let forest = filled_without::<Brand>(rt.alloc(), Blank::new(1), &[5, 5, 5, 5], 1)?.ok_or(
-        "filled",
-    )?;
+    let forest = filled_without::<Brand>(rt.alloc(), Blank::new(1), &FIVES, 1)?.ok_or("filled")?;
     let arena = forest.arena();
     assert_eq!(rt; arena.entries(), 4);
     assert!(rt; arena.element(1).node_p.is_none());
@@ -233,9 +232,7 @@ fn deletes_the_second_of_four_equal_keys(rt: HostRuntime) -> Result<(), Fail> {
 
 #[test]
 fn deletes_the_entry_of_the_top_node(rt: HostRuntime) -> Result<(), Fail> {
-    let forest = filled_without::<Brand>(rt.alloc(), Blank::new(1), &[5, 5, 5, 5], 2)?.ok_or(
-        "filled",
-    )?;
+    let forest = filled_without::<Brand>(rt.alloc(), Blank::new(1), &FIVES, 2)?.ok_or("filled")?;
     let arena = forest.arena();
     assert_eq!(rt; (arena.entries(), arena.roots()), (4, 1));
     assert_eq!(rt; arena.root(0).number(), 7);

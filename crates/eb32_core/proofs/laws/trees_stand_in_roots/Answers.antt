@@ -1,4 +1,4 @@
-use Rattle.std.proofs.Common.{◌≡◌, subst}
+use Rattle.std.proofs.Common.{subst}
 use Rattle.eb_arena.specs.Shape.{HasShape}
 use Rattle.eb32_core.proofs.Standing.{Stood, in_placed}
 use Rattle.eb32_core.proofs.laws.trees_stand_in_roots.Goals as goal

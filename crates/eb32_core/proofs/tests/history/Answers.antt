@@ -1,5 +1,4 @@
-use Rattle.std.proofs.Common.{◌≡◌, ◌+◌, ◌%◌, ◌/◌, ◌^◌, ◌<◌, ◌≤◌, ℕ, length, ◌∙◌, arith}
-use Rattle.sched_base.specs.KeyedList.{root_at}
+use Rattle.std.proofs.Common.{◌%◌, ◌∙◌, arith}
 use Rattle.eb32_core.proofs.tests.history.Goals as goal
 
 pub loop-init : goal.loop-init

@@ -1,4 +1,4 @@
-use Rattle.std.proofs.Common.{◌≡◌, ◌<◌, length, ap, ◌∙◌, subst, arith}
+use Rattle.std.proofs.Common.{◌<◌, length, ap, ◌∙◌, subst, arith}
 use Rattle.eb_arena.specs.Shape.{HasShape}
 use Rattle.eb32_core.proofs.Standing.{Stood, root_counted}
 use Rattle.eb32_core.proofs.tests.keeps_two_roots_apart.Goals as goal

@@ -1,5 +1,4 @@
-use Rattle.std.proofs.Common.{◌≡◌, ℕ, Some, false, sym, ◌∙◌}
-use Rattle.std.specs.Option.{is_some}
+use Rattle.std.proofs.Common.{◌≡◌, ℕ, Some, sym, ◌∙◌}
 use Rattle.sched_base.specs.KeyedList.{StandsIn}
 use Rattle.eb32_core.specs.Forest.{seen_of}
 use Rattle.eb32_core.proofs.Standing.{free_is}

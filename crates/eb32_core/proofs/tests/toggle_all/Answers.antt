@@ -1,4 +1,4 @@
-use Rattle.std.proofs.Common.{◌≡◌, ◌+◌, ◌^◌, ◌<◌, ℕ, length, get_or, ap, ◌∙◌, subst, arith}
+use Rattle.std.proofs.Common.{◌<◌, ℕ, length, get_or, ap, ◌∙◌, subst, arith}
 use Rattle.eb_arena.specs.Shape.{HasShape}
 use Rattle.eb32_core.specs.Forest.{seen_of}
 use Rattle.eb32_core.proofs.Standing.{Stood, root_counted, entry_counted, made_is}

@@ -1,6 +1,5 @@
-use Rattle.std.proofs.Common.{◌≡◌, ℕ, ap, ◌∙◌, sym, subst}
+use Rattle.std.proofs.Common.{◌≡◌, ℕ, sym, subst}
 use Rattle.sched_base.specs.KeyedList.{StandsIn, IsPlaced, deleted_from}
-use Rattle.eb32_walk.specs.Ends.{IsIn}
 use Rattle.eb32_core.specs.Forest.{Grove, seen_of}
 use Rattle.eb32_core.proofs.Standing.{tended, placed_in}
 use Rattle.eb32_core.proofs.Leaving.{left_tended, left_seen}

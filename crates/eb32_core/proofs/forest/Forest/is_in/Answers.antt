@@ -1,7 +1,6 @@
-use Rattle.std.proofs.Common.{◌≡◌, ℕ, ◌≤◌, None, Some, length, sym, ap, ◌∙◌, subst, arith}
+use Rattle.std.proofs.Common.{◌≡◌, ℕ, None, Some, sym, ap, ◌∙◌, subst, arith}
 use Rattle.sched_base.specs.KeyedList.{StandsIn}
 use Rattle.eb_arena.specs.Links.{is_nowhere}
-use Rattle.eb_arena.specs.Parts.{element_at}
 use Rattle.eb32_core.specs.Forest.{Grove, seen_of}
 use Rattle.eb32_walk.specs.Ends.{IsIn}
 use Rattle.eb32_core.proofs.Standing.{tended, stands, out, nowhere_is, only}

@@ -1,4 +1,4 @@
-use Rattle.std.proofs.Common.{◌≡◌, ◌+◌, ◌^◌, ◌<◌, length, sym, ap, ◌∙◌, subst, arith}
+use Rattle.std.proofs.Common.{◌≡◌, ◌+◌, ◌^◌, ◌<◌, length, ap, ◌∙◌, subst, arith}
 use Rattle.eb_arena.specs.Shape.{HasShape}
 use Rattle.eb32_core.proofs.Standing.{Stood, entries_are, root_fits, made_is}
 use Rattle.eb32_core.proofs.keyed.ForestKeyedLists.insert.Goals as goal
