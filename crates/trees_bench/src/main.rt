@@ -4,6 +4,8 @@
 #![tactic(auto)]
 
 mod rounds;
+#[cfg(test)]
+mod tests;
 mod work;
 
 use rounds::{Times, measure};
