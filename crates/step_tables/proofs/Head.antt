@@ -7,6 +7,7 @@ use Rattle.step_tables.specs.declared.progress.Progress.{Progress}
 use Rattle.step_tables.specs.declared.shapes.Setting.{Setting}
 use Rattle.step_tables.specs.declared.shapes.Setting.TheVariants.{Workers, Depth, Start, Step, Rounds}
 use Rattle.step_tables.specs.declared.faults.ScriptError.{ScriptError}
+use Rattle.step_tables.specs.declared.faults.ScriptFault.{ScriptFault}
 use Rattle.step_tables.specs.Views.{Gives}
 use Rattle.step_tables.specs.Words.{Word, pieces, words_of}
 use Rattle.step_tables.specs.Shapes.{sets}
@@ -138,3 +139,8 @@ read-is_sound bytes s e = within-is_sound byte_limit (take (byte_limit + 1) byte
 pub gives_sound : (r : Result Script ScriptError) (limit : ℕ) (bytes : List ℕ) → Gives r (script_within limit bytes) → IfOk r (λ s. IsTrue (is_sound s))
 gives_sound (Ok s) limit bytes e = within-is_sound limit bytes s e
 gives_sound (Err e) limit bytes given = tt
+
+-- what a text is read as is in range
+pub read_sound : (r : Result Script ScriptFault) (limit : ℕ) (bytes : List ℕ) → r ≡ script_within limit bytes → IfOk r (λ s. IsTrue (is_sound s))
+read_sound (Ok s) limit bytes e = within-is_sound limit bytes s (sym e)
+read_sound (Err f) limit bytes e = tt

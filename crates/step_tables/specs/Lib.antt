@@ -1,6 +1,7 @@
 pub mod Words
 pub mod Shapes
 pub mod Text
+pub mod Tables
 pub mod Sound
 pub mod Ranges
 pub mod Index

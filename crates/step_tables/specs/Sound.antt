@@ -10,7 +10,7 @@ use Rattle.step_tables.specs.declared.tables.Kind.TheVariants.{Pinned, Shared, T
 use Rattle.step_tables.specs.declared.tables.Row.{Row}
 use Rattle.step_tables.specs.declared.tables.TaskDef.{TaskDef}
 use Rattle.step_tables.specs.declared.tables.Event.{Event}
-use Rattle.step_tables.specs.declared.tables.Script.{Script}
+use Rattle.step_tables.specs.Tables.{Tables}
 use Rattle.step_tables.specs.Words.{Word, is_empty, is_name}
 
 -- whether n is from low to high
@@ -61,7 +61,7 @@ rising_below from rounds [] = true
 rising_below from rounds (event ∷ events) = nat_le from event.round && (nat_lt event.round rounds && rising_below event.round rounds events)
 
 -- whether these are the tables of a script
-unfoldable pub is_sound : Script → Bool
+unfoldable pub is_sound : Tables → Bool
 is_sound s =
     within 1 16 s.workers && (within 1 1000 s.depth && (nat_le s.start 4294967295 && (within 1 1048576 s.step && (within 1 100000 s.rounds
     && (nat_le (length s.tasks) 4096 && (list_all (is_sound_task s.workers (length s.tasks)) s.tasks && (distinct_names (map (λ task. task.name) s.tasks)
@@ -101,5 +101,5 @@ has_plain_task (task ∷ []) = is_plain_task task
 has_plain_task (task ∷ other ∷ tasks) = false
 
 -- whether the script is of the form that the first runs take: one worker, no event, and no task or a plain one
-unfoldable pub is_first_form : Script → Bool
+unfoldable pub is_first_form : Tables → Bool
 is_first_form s = s.workers == 1 && (is_empty s.events && has_plain_task s.tasks)

@@ -1,7 +1,7 @@
 //! The form of the scripts that the first runs take.
 
-ghost use Rattle.std.specs.Prelude.{◌≡◌};
-ghost use Rattle.step_tables.specs.Sound.{is_plain_kind, is_keep, has_plain_row, is_plain_task, has_plain_task, is_first_form};
+ghost use Rattle.std.specs.Prelude.{◌≡◌, IsTrue};
+ghost use Rattle.step_tables.specs.Sound.{is_plain_kind, is_keep, has_plain_row, is_plain_task, has_plain_task, is_first_form, is_sound};
 
 use crate::tables::{Expiry, Kind, Row, Script, TaskDef};
 
@@ -58,10 +58,9 @@ impl Script {
     /// nice 0 and has one row that leaves the timer alone.
     #[tactic(auto, unfolding(crate::specs::Sound::is_first_form))]
     pub fn is_first_form(&self) -> bool
-        ensures { result ≡ is_first_form self.now }
+        ensures same { result ≡ is_first_form self.now }
+        ensures sound { IsTrue (is_sound self.now) }
     {
-        self.workers == 1
-            && self.events.as_slice().is_empty()
-            && has_plain_task(self.tasks.as_slice())
+        self.workers() == 1 && self.events().is_empty() && has_plain_task(self.tasks())
     }
 }

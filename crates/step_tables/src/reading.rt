@@ -126,6 +126,7 @@ impl Progress {
     /// The script, where the line `end` has come and nothing stands behind it.
     #[tactic(auto, unfolding(crate::specs::Judging::closed, crate::specs::Judging::script_from))]
     fn close(self, long: Option<u32>, number: u32, piece: &[u8]) -> Result<Script, ScriptError>
+        requires { IfOk (closed long number self piece.now) (λ s. IsTrue (is_sound s)) }
         ensures { Gives result (closed long number self piece.now) }
     {
         if !self.ended {

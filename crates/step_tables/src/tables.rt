@@ -1,7 +1,11 @@
 //! The tables of a script.
 
+ghost use Rattle.std.specs.Prelude.{◌≡◌, IsTrue};
+ghost use Rattle.step_tables.specs.Sound.{is_sound};
+
 use crate::lists::{Actions, Events, Name, Rows, Tasks};
 use sched_base::{Class, Reasons, TaskId};
+use std::marker::Model;
 
 /// One action of a row or an event.
 #[derive(Clone, Copy, Debug, PartialEq, Eq)]
@@ -63,20 +67,92 @@ pub struct Event {
 }
 
 /// A script: how many workers there are, how the rounds are timed, the tasks and the events.
+/// Contracts see its tables, which are in range.
 #[derive(Debug, Drop)]
 pub struct Script {
     /// 1 to 16.
-    pub workers: u32,
+    pub(crate) workers: u32,
     /// How many tasks a turn may pick, 1 to 1,000.
-    pub depth: u32,
+    pub(crate) depth: u32,
     /// The tick of round 0, in milliseconds that wrap at 2^32.
-    pub start: u32,
+    pub(crate) start: u32,
     /// Milliseconds from one round to the next, 1 to 1,048,576.
-    pub step: u32,
+    pub(crate) step: u32,
     /// The most rounds that are run, 1 to 100,000.
-    pub rounds: u32,
+    pub(crate) rounds: u32,
     /// At most 4,096 tasks.
-    pub tasks: Tasks,
+    pub(crate) tasks: Tasks,
     /// At most 65,536 events, by rising rounds.
-    pub events: Events,
+    pub(crate) events: Events,
+}
+
+impl Model for Script {
+    ghost use Rattle.step_tables.specs.Tables.{Tables};
+
+    ghost Value = { Tables };
+
+    ghost use Rattle.std.specs.Prelude.{IsTrue};
+    ghost use Rattle.step_tables.specs.Sound.{is_sound};
+
+    ghost view = { λ s. record { workers = s.workers; depth = s.depth; start = s.start; step = s.step; rounds = s.rounds; tasks = s.tasks; events = s.events } };
+
+    ghost invariant = { λ s. IsTrue (is_sound (record { workers = s.workers; depth = s.depth; start = s.start; step = s.step; rounds = s.rounds; tasks = s.tasks; events = s.events })) };
+}
+
+impl Script {
+    /// How many workers there are, 1 to 16.
+    pub fn workers(&self) -> u32
+        ensures same { result ≡ self.now.workers }
+        ensures sound { IsTrue (is_sound self.now) }
+    {
+        self.workers
+    }
+
+    /// How many tasks a turn may pick, 1 to 1,000.
+    pub fn depth(&self) -> u32
+        ensures same { result ≡ self.now.depth }
+        ensures sound { IsTrue (is_sound self.now) }
+    {
+        self.depth
+    }
+
+    /// The tick of round 0, in milliseconds that wrap at 2^32.
+    pub fn start(&self) -> u32
+        ensures same { result ≡ self.now.start }
+        ensures sound { IsTrue (is_sound self.now) }
+    {
+        self.start
+    }
+
+    /// Milliseconds from one round to the next, 1 to 1,048,576.
+    pub fn step(&self) -> u32
+        ensures same { result ≡ self.now.step }
+        ensures sound { IsTrue (is_sound self.now) }
+    {
+        self.step
+    }
+
+    /// The most rounds that are run, 1 to 100,000.
+    pub fn rounds(&self) -> u32
+        ensures same { result ≡ self.now.rounds }
+        ensures sound { IsTrue (is_sound self.now) }
+    {
+        self.rounds
+    }
+
+    /// At most 4,096 tasks.
+    pub fn tasks(&self) -> &[TaskDef]
+        ensures same { result.now ≡ self.now.tasks }
+        ensures sound { IsTrue (is_sound self.now) }
+    {
+        self.tasks.as_slice()
+    }
+
+    /// At most 65,536 events, by rising rounds.
+    pub fn events(&self) -> &[Event]
+        ensures same { result.now ≡ self.now.events }
+        ensures sound { IsTrue (is_sound self.now) }
+    {
+        self.events.as_slice()
+    }
 }

@@ -242,8 +242,7 @@ fn reads_back(
     let script = Script::read(alloc, text)?;
     let mut written = Vec::new(alloc);
     script.write(&mut written)?;
-    let counted = script.tasks.as_slice().len() == tasks
-        && script.events.as_slice().len() == events;
+    let counted = script.tasks().len() == tasks && script.events().len() == events;
     Ok(counted && written.as_slice() == text)
 }
 

@@ -294,22 +294,22 @@ fn put_head(out: &mut Vec<u8>, script: &Script) -> Result<(), AllocError>
     ensures { OnOk result (out.new.items ≡ out.old.items ++ (codes "taskscript 1" ++ 10 ∷ lines_text (settings_said script.now))) }
 {
     put(out, b"taskscript 1\n")?;
-    put_setting(out, Setting::Workers, script.workers)?;
-    put_setting(out, Setting::Depth, script.depth)?;
-    put_setting(out, Setting::Start, script.start)?;
-    put_setting(out, Setting::Step, script.step)?;
-    put_setting(out, Setting::Rounds, script.rounds)
+    put_setting(out, Setting::Workers, script.workers())?;
+    put_setting(out, Setting::Depth, script.depth())?;
+    put_setting(out, Setting::Start, script.start())?;
+    put_setting(out, Setting::Step, script.step())?;
+    put_setting(out, Setting::Rounds, script.rounds())
 }
 
 /// Appends the whole text.
 fn put_script(out: &mut Vec<u8>, script: &Script) -> Result<(), AllocError>
     ensures { OnOk result (out.new.items ≡ out.old.items ++ script_text script.now) }
 {
-    let tasks = script.tasks.as_slice();
+    let tasks = script.tasks();
     put_head(out, script)?;
     put_tasks(out, tasks)?;
     put_all_rows(out, tasks)?;
-    put_events(out, tasks, script.events.as_slice())?;
+    put_events(out, tasks, script.events())?;
     put(out, b"end\n")
 }
 

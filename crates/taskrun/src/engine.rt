@@ -34,10 +34,9 @@ pub(crate) struct Engine {
 }
 
 impl Engine {
-    /// The engine before round 0 of a sound script of the first form.
+    /// The engine before round 0 of a script of the first form.
     pub(crate) fn new(alloc: Global, script: &Script) -> Result<Engine, AllocError>
-        requires sound { IsTrue (is_sound script.now) }
-        requires form { IsTrue (is_first_form script.now) }
+        requires { IsTrue (is_first_form script.now) }
         ensures world { IfOk result (λ e. world_of e ≡ opened script.now) }
         ensures spare { IfOk result (λ e. Spare e 20) }
     {
@@ -54,14 +53,14 @@ impl Engine {
     /// Makes a turn: empties the box, and runs the task where it is queued.
     #[tactic(auto, unfolding(crate::specs::Play::turned))]
     pub(crate) fn turn(&mut self, script: &Script)
-        requires sound { IsTrue (is_sound script.now) }
         requires form { IsTrue (is_first_form script.now) }
         requires ready { Ready script.now (world_of self.old) (2 ^ 40) }
         requires spare { Spare self.old 20 }
+        ensures sound { IsTrue (is_sound script.now) }
         ensures world { world_of self.new ≡ turned script.now (world_of self.old) }
         ensures room { self.new.log.room ≡ self.old.log.room }
     {
-        let Some(task) = script.tasks.as_slice().first() else {
+        let Some(task) = script.tasks().first() else {
             return;
         };
         self.collect();
@@ -75,7 +74,7 @@ impl Engine {
         requires { Ready script.now (world_of self.now) (2 ^ 40) }
         ensures { result ≡ is_quiet (world_of self.now) }
     {
-        script.tasks.as_slice().is_empty() || is_still_at(self.machine.place(TASK))
+        script.tasks().is_empty() || is_still_at(self.machine.place(TASK))
     }
 
     /// The entries of the round so far.
@@ -194,12 +193,11 @@ impl Engine {
 
 /// The machine before round 0: a task that is to run from the start on is in the worker's box.
 fn machine_of(alloc: Global, script: &Script) -> Result<Machine, AllocError>
-    requires sound { IsTrue (is_sound script.now) }
-    requires form { IsTrue (is_first_form script.now) }
+    requires { IsTrue (is_first_form script.now) }
     ensures { IfOk result (λ m. m ≡ (opening script.now).state) }
 {
-    let tasks = script.tasks.as_slice();
-    let mut machine = Machine::new(alloc, tasks.len() as u32, script.workers)?;
+    let tasks = script.tasks();
+    let mut machine = Machine::new(alloc, tasks.len() as u32, script.workers())?;
     if is_first_init(tasks) {
         machine.seat_init(TASK, WORKER.0);
     }

@@ -2,7 +2,7 @@
 
 ghost use Rattle.std.specs.Prelude.{◌≡◌, ℕ, ◌^◌, ◌≤◌, [], ◌++◌, length, true, if◌then◌else◌, IsTrue, IfOk, IfErr, OnOk, OnErr};
 ghost use Rattle.sched_base.specs.Streams.{Appends, AppendsFront, Rose};
-ghost use Rattle.step_tables.specs.Sound.{is_sound, is_first_form};
+ghost use Rattle.step_tables.specs.Sound.{is_first_form};
 ghost use Rattle.transcript.specs.Spelling.{text_of, round_text, end_text};
 ghost use Rattle.taskrun.specs.Play.{turned, is_quiet, cleared, play};
 ghost use Rattle.taskrun.specs.Engine.{world_of, Ready};
@@ -40,11 +40,10 @@ impl From<AllocError> for PlayError {
     }
 }
 
-/// Plays a sound script of the first form, and writes the text of its run round by round. After an
+/// Plays a script of the first form, and writes the text of its run round by round. After an
 /// error the sink has a first part of the text.
 pub fn play_out<O: Sink>(alloc: Global, script: &Script, out: &mut O) -> Result<(), PlayError>
-    requires sound { IsTrue (is_sound script.now) }
-    requires form { IsTrue (is_first_form script.now) }
+    requires { IsTrue (is_first_form script.now) }
     ensures ok { OnOk result (Appends (O.held out.old) (O.held out.new) (text_of (play script.now))) }
     ensures err { OnErr result (AppendsFront (O.held out.old) (O.held out.new) (text_of (play script.now))) }
     ensures fault { IfErr result (λ e. e ≡ PlayError.Fault → Rose (O.faults out.old) (O.faults out.new)) }
@@ -53,17 +52,18 @@ pub fn play_out<O: Sink>(alloc: Global, script: &Script, out: &mut O) -> Result<
     let mut engine = Engine::new(alloc, script)?;
     let mut text = Vec::new(alloc);
     write_head(&mut text)?;
-    let mut tick = script.start;
-    for round in 0..script.rounds {
+    let rounds = script.rounds();
+    let mut tick = script.start();
+    for round in 0..rounds {
         let rest = play_round(&mut engine, script, &mut text, round, tick)?;
         write_all(out, &text)?;
         if rest {
             return Ok(());
         }
         text.clear();
-        tick = tick.wrapping_add(script.step);
+        tick = tick.wrapping_add(script.step());
     }
-    write_end(&mut text, false, script.rounds - 1)?;
+    write_end(&mut text, false, rounds - 1)?;
     write_all(out, &text)?;
     Ok(())
 }
@@ -77,7 +77,6 @@ fn play_round(
     round: u32,
     tick: u32,
 ) -> Result<bool, AllocError>
-    requires sound { IsTrue (is_sound script.now) }
     requires form { IsTrue (is_first_form script.now) }
     requires ready { Ready script.now (world_of engine.old) (2 ^ 32) }
     requires clear { engine.old.log.entries ≡ [] }

@@ -4,7 +4,7 @@ ghost use Rattle.std.specs.Prelude.{◌≡◌, ℕ, ◌≤◌, Bool, true, false
 ghost use Rattle.std.specs.String.{string_bytes};
 ghost use Rattle.sched_base.specs.Streams.{Rose};
 ghost use Rattle.step_tables.specs.Judging.{script_of};
-ghost use Rattle.step_tables.specs.Sound.{is_sound, is_first_form};
+ghost use Rattle.step_tables.specs.Sound.{is_first_form};
 ghost use Rattle.taskrun.specs.Answers.{is_run, Answers, Expected, IsRunning, IsUnwritten, IsOfRun, ReadsAtMost};
 
 use crate::pieces::{ReadError, read_all};
@@ -90,7 +90,6 @@ fn run_bytes<O: Sink>(alloc: Global, bytes: &[u8], out: &mut O) -> Status
 
 /// Runs a script, if it is of the form that is run.
 fn run_script<O: Sink>(alloc: Global, script: &Script, out: &mut O) -> Status
-    requires { IsTrue (is_sound script.now) }
     ensures answers { Answers (Ok script.now) (O.held out.old) (O.held out.new) result }
     ensures write_fault { result ≡ Status.WriteFault → Rose (O.faults out.old) (O.faults out.new) }
     ensures counted { O.faults out.old ≤ O.faults out.new }

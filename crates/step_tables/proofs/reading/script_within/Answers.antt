@@ -3,6 +3,7 @@ use Rattle.std.specs.Prelude.{IfSome}
 use Rattle.std.proofs.lemmas.Result.{err_from_is_err_and}
 use Rattle.step_tables.specs.Words.{pieces}
 use Rattle.step_tables.specs.Views.{Gives, pieces_left}
+use Rattle.step_tables.proofs.Head.{read_sound}
 use Rattle.step_tables.proofs.LineLoop.{before_next, gives_fault, before_end}
 use Rattle.step_tables.proofs.reading.script_within.Goals as goal
 
@@ -22,3 +23,8 @@ lines-preserved c =
     let cut : pieces 10 c.lines.rest.now ≡ c.piece_at.result.0.now ∷ pieces 10 c.in-Some.more.now = c.piece_at.ensures.same ∙ ap (λ r. c.piece_at.result.0.now ∷ pieces_left 10 r) c.in-Some.is in
     let less : length c.in-Some.more.now < length c.lines.rest.now = subst (λ r. IfSome r (λ more. length more.now < length c.lines.rest.now)) c.in-Some.is c.piece_at.ensures.shorter in
     before_next _ c.args.bytes.now c.lines.rest.now _ c.in-Some.more.now c.lines.number c.lines.progress c.take_line.new.self _ cut less c.in_ok-take_line.ensures c.lines.invariant
+
+pub close-requires : goal.close-requires
+close-requires c =
+    let cut : pieces 10 c.lines.rest.now ≡ c.piece_at.result.0.now ∷ [] = c.piece_at.ensures.same ∙ ap (λ r. c.piece_at.result.0.now ∷ pieces_left 10 r) c.in_default.is in
+    read_sound _ c.args.limit c.args.bytes.now (before_end _ c.args.bytes.now _ _ _ _ _ cut c.lines.invariant)
