@@ -26,3 +26,4 @@ pub mod UprootShape
 pub mod Standing
 pub mod Upward
 pub mod Leaving
+pub mod Cost

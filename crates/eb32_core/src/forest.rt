@@ -5,6 +5,7 @@ ghost use Rattle.sched_base.specs.KeyedList.{blank, root_at, inserted_into, dele
 ghost use Rattle.eb_arena.specs.Parts.{unused};
 ghost use Rattle.eb_arena.specs.Shape.{HasShape};
 ghost use Rattle.eb_arena.specs.declared.links.Target.TheVariants as targets;
+ghost use Rattle.eb_dups.specs.Cost.{ChangesFew};
 ghost use Rattle.eb32_core.specs.Forest.{seen_of};
 
 use crate::planting::plant;
@@ -72,7 +73,8 @@ impl Forest {
         requires entry_exists { entry < length self.old.parts.elements }
         requires free { IsFree entry (seen_of self.old) }
         requires room { slice_index self.old.made root + 1 < 2 ^ 63 }
-        ensures { seen_of self.new ≡ inserted_into root entry key (seen_of self.old) }
+        ensures inserts { seen_of self.new ≡ inserted_into root entry key (seen_of self.old) }
+        ensures few { ChangesFew 3 entry self.old.parts self.new.parts }
     {
         let mut element = self.arena.element(entry);
         element.key = key;
@@ -84,7 +86,8 @@ impl Forest {
     /// Takes an entry out of its root. One step is one element that is visited.
     pub fn delete<L: Ledger>(&mut self, entry: u32, steps: &mut Steps<L>)
         requires { IsPlaced entry (seen_of self.old) }
-        ensures { (root : ℕ) → StandsIn root entry (seen_of self.old) → seen_of self.new ≡ deleted_from root entry (seen_of self.old) }
+        ensures deletes { (root : ℕ) → StandsIn root entry (seen_of self.old) → seen_of self.new ≡ deleted_from root entry (seen_of self.old) }
+        ensures few { ChangesFew 8 entry self.old.parts self.new.parts }
     {
         uproot(&mut self.arena, entry, steps);
     }

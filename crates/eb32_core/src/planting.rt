@@ -6,6 +6,7 @@ ghost use Rattle.eb_arena.specs.Shape.{HasShape};
 ghost use Rattle.eb_arena.specs.declared.links.Target.TheVariants as targets;
 ghost use Rattle.eb_arena.specs.declared.links.Place.TheVariants as places;
 ghost use Rattle.eb32_walk.specs.Search.{own_key};
+ghost use Rattle.eb_dups.specs.Cost.{ChangesFew};
 ghost use Rattle.eb32_core.specs.Landing.{IsLanding};
 ghost use Rattle.eb32_core.specs.Planted.{IsRoomy, Plants};
 
@@ -22,7 +23,8 @@ fn plant_first(arena: &mut Arena, root: u32, entry: u32)
     requires entry_exists { entry < length arena.old.elements }
     requires empty { link_at arena.old root ≡ targets.Nothing }
     requires free { (element_at arena.old entry).leaf_p ≡ places.Nowhere }
-    ensures { Plants arena.old arena.new root entry }
+    ensures plants { Plants arena.old arena.new root entry }
+    ensures few { ChangesFew 1 entry arena.old arena.new }
 {
     let leaf = Link::leaf(entry);
     let up = Up::new(arena.entries() + root, Side::Left);
@@ -38,7 +40,8 @@ fn branch_off(arena: &mut Arena, root: u32, part: Link, entry: u32)
     requires lands { IsLanding arena.old root (element_at arena.old entry).key part }
     requires differs { own_key arena.old part ≢ (element_at arena.old entry).key }
     requires free { (element_at arena.old entry).leaf_p ≡ places.Nowhere }
-    ensures { Plants arena.old arena.new root entry }
+    ensures plants { Plants arena.old arena.new root entry }
+    ensures few { ChangesFew 3 entry arena.old arena.new }
 {
     let own = arena.element(part.index()).key;
     let key = arena.element(entry).key;
@@ -58,7 +61,8 @@ pub fn plant<L: Ledger>(arena: &mut Arena, root: u32, entry: u32, steps: &mut St
     requires root_exists { root < length arena.old.links }
     requires entry_exists { entry < length arena.old.elements }
     requires free { (element_at arena.old entry).leaf_p ≡ places.Nowhere }
-    ensures { Plants arena.old arena.new root entry }
+    ensures plants { Plants arena.old arena.new root entry }
+    ensures few { ChangesFew 3 entry arena.old arena.new }
 {
     if arena.root(root).is_none() {
         plant_first(arena, root, entry);

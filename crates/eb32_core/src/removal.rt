@@ -5,6 +5,7 @@ ghost use Rattle.eb_arena.specs.Links.{place_index};
 ghost use Rattle.eb_arena.specs.Parts.{element_at};
 ghost use Rattle.eb_arena.specs.Shape.{HasShape};
 ghost use Rattle.eb32_walk.specs.Ends.{IsIn};
+ghost use Rattle.eb_dups.specs.Cost.{ChangesFew};
 ghost use Rattle.eb32_core.specs.Removal.{Uproots};
 
 use crate::replacing::replace;
@@ -18,7 +19,8 @@ fn clear(arena: &mut Arena, entry: u32)
     requires shape { HasShape arena.old }
     requires in_tree { IsIn arena.old entry }
     requires alone { length arena.old.elements ≤ place_index (element_at arena.old entry).leaf_p }
-    ensures { Uproots arena.old arena.new entry }
+    ensures uproots { Uproots arena.old arena.new entry }
+    ensures few { ChangesFew 2 entry arena.old arena.new }
 {
     let up = arena.element(entry).leaf_p;
     arena.hang(Link::leaf(entry), Up::NONE);
@@ -30,7 +32,8 @@ fn clear(arena: &mut Arena, entry: u32)
 pub fn uproot<L: Ledger>(arena: &mut Arena, entry: u32, steps: &mut Steps<L>)
     requires shape { HasShape arena.old }
     requires in_tree { IsIn arena.old entry }
-    ensures { Uproots arena.old arena.new entry }
+    ensures uproots { Uproots arena.old arena.new entry }
+    ensures few { ChangesFew 8 entry arena.old arena.new }
 {
     if arena.element(entry).leaf_p.index() >= arena.entries() {
         steps.tick();

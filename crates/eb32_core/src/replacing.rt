@@ -3,6 +3,7 @@
 ghost use Rattle.std.specs.Prelude.{◌≡◌, ◌≢◌, ◌<◌, length};
 ghost use Rattle.eb_arena.specs.Parts.{element_at};
 ghost use Rattle.eb_arena.specs.declared.links.Place.TheVariants as places;
+ghost use Rattle.eb_dups.specs.Cost.{ChangesFew};
 ghost use Rattle.eb32_core.specs.Removal.{MayReplace, Replaces};
 
 use eb_arena::{Arena, Link, Side, Up};
@@ -15,7 +16,8 @@ use std::sync::ledger::Ledger;
 pub(crate) fn replace<L: Ledger>(arena: &mut Arena, entry: u32, heir: u32, steps: &mut Steps<L>)
     requires may { MayReplace arena.old entry heir }
     requires used { (element_at arena.old entry).node_p ≢ places.Nowhere }
-    ensures { Replaces arena.old arena.new entry heir }
+    ensures replaces { Replaces arena.old arena.new entry heir }
+    ensures few { ChangesFew 5 entry arena.old arena.new }
 {
     let node = arena.element(entry);
     arena.hang(node.left, Up::new(heir, Side::Left));

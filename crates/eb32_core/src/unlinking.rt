@@ -5,6 +5,7 @@ ghost use Rattle.eb_arena.specs.Links.{place_index};
 ghost use Rattle.eb_arena.specs.Parts.{element_at};
 ghost use Rattle.eb_arena.specs.Shape.{HasShape};
 ghost use Rattle.eb32_walk.specs.Ends.{IsIn};
+ghost use Rattle.eb_dups.specs.Cost.{ChangesFew};
 ghost use Rattle.eb32_core.specs.Removal.{Unlinks};
 
 use eb_arena::{Arena, Link, Up};
@@ -21,6 +22,7 @@ pub(crate) fn unlink<L: Ledger>(arena: &mut Arena, entry: u32, steps: &mut Steps
     requires below_node { place_index (element_at arena.old entry).leaf_p < length arena.old.elements }
     ensures exists { result < length arena.old.elements }
     ensures unlinks { Unlinks arena.old arena.new entry result }
+    ensures few { ChangesFew 4 entry arena.old arena.new }
 {
     let up = arena.element(entry).leaf_p;
     let freed = up.index();

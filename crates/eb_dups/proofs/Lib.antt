@@ -5,3 +5,4 @@ pub mod Regrown
 pub mod Descent
 pub mod Added
 pub mod Ending
+pub mod Cost

@@ -1,3 +1,4 @@
 pub mod Added
+pub mod Cost
 pub mod Grown
 pub mod Spine

@@ -7,6 +7,7 @@ ghost use Rattle.eb_arena.specs.declared.links.Target.TheVariants as targets;
 ghost use Rattle.eb_arena.specs.declared.links.Place.TheVariants as places;
 ghost use Rattle.eb_dups.specs.Spine.{KeyHead, TwinAdded, IsTwinTree, IsSlot, depth_of};
 ghost use Rattle.eb_dups.specs.Added.{AddsTwin};
+ghost use Rattle.eb_dups.specs.Cost.{ChangesFew};
 
 use crate::grow::attach;
 use eb_arena::{Arena, Link, Side};
@@ -62,7 +63,8 @@ pub fn insert_dup<L: Ledger>(arena: &mut Arena, head: Link, entry: u32, steps: &
     requires head { KeyHead arena.old head (element_at arena.old entry).key }
     requires exists { entry < length arena.old.elements }
     requires free { (element_at arena.old entry).leaf_p ≡ places.Nowhere }
-    ensures { AddsTwin arena.old arena.new head entry }
+    ensures adds { AddsTwin arena.old arena.new head entry }
+    ensures few { ChangesFew 3 entry arena.old arena.new }
 {
     let slot = slot_below(arena, head, steps);
     let bit = bit_above(depth_at(arena, slot));

@@ -3,6 +3,7 @@ use mir.Val.{to_z, hbits}
 use Rattle.std.proofs.lemmas.Int.{to_z_pos}
 use Rattle.eb_arena.specs.Parts.{element_at, up_of}
 use Rattle.eb_dups.specs.Grown.{attached}
+use Rattle.eb_dups.proofs.Cost.{few_attached}
 use Rattle.eb32_walk.specs.Search.{own_key}
 use Rattle.eb32_core.specs.Landing.{IsTopBit, SideIs}
 use Rattle.eb32_core.specs.Planted.{Plants}
@@ -28,8 +29,8 @@ attach-requires-clause-hangs c = land_hangs _ _ _ _ c.requires.lands
 pub attach-requires-clause-place_exists : goal.attach-requires-clause-place_exists
 attach-requires-clause-place_exists c = land_place _ _ _ _ c.requires.lands c.requires.root_exists
 
-pub returns : goal.returns
-returns c =
+pub returns-clause-plants : goal.returns-clause-plants
+returns-clause-plants c =
     let small : c.top_bit.result < 2 ^ hbits w16 = let f : c.top_bit.result < 32 = c.top_bit.ensures.small in let g : c.top_bit.result < 32768 = omega (arith, f) in g in
     let bit : to_z w16 c.top_bit.result ≡ pos c.top_bit.result = to_z_pos w16 c.top_bit.result small in
     let own : c.element-own.result.key ≡ own_key c.args.arena.now c.args.part = ap (λ x. x.key) (c.element-own.ensures ∙ ap (element_at c.args.arena.now) c.index.ensures) in
@@ -38,3 +39,7 @@ returns c =
     let side : SideIs (own_key c.args.arena.now c.args.part) (element_at c.args.arena.now c.args.entry).key c.side_of.result = subst (λ k. SideIs (own_key c.args.arena.now c.args.part) k c.side_of.result) key (subst (λ k. SideIs k c.element-key.result.key c.side_of.result) own c.side_of.ensures) in
     let e : c.attach.new.arena ≡ attached c.args.arena.now c.args.part (up_of c.args.arena.now c.args.part) c.args.entry c.side_of.result (pos c.top_bit.result) = c.attach.ensures ∙ ap (attached c.args.arena.now c.args.part (up_of c.args.arena.now c.args.part) c.args.entry c.side_of.result) bit in
     subst (λ z. Plants c.args.arena.now z c.args.root c.args.entry) (sym e) (branch_planted c.args.arena.now c.args.root c.args.part c.args.entry c.top_bit.result c.side_of.result c.requires.lands c.requires.root_exists c.requires.entry_exists c.requires.free top side)
+
+pub returns-clause-few : goal.returns-clause-few
+returns-clause-few c =
+    few_attached c.args.arena.now c.attach.new.arena c.args.part (up_of c.args.arena.now c.args.part) c.args.entry c.side_of.result (to_z w16 c.top_bit.result) c.attach.ensures

@@ -1,4 +1,5 @@
 use Rattle.std.proofs.Common.{refl}
+use Rattle.eb32_core.proofs.Cost.{unlink_few}
 use Rattle.eb32_core.proofs.UnlinkReads.{reads, may_write, counts_same, counts_hung, part_stays, place_stays, read_unlinks}
 use Rattle.eb32_core.proofs.unlinking.unlink.Goals as goal
 
@@ -21,3 +22,7 @@ put_link-requires-clause-exists g c =
 pub returns-clause-unlinks : goal.returns-clause-unlinks
 returns-clause-unlinks g c =
     read_unlinks (reads c.requires.shape c.requires.in_tree c.requires.below_node c.element-up.ensures c.index-freed.ensures c.element-node.ensures c.side.ensures c.opposite.ensures c.child-sibling.ensures) (record { none_is = refl; leaf_is = c.leaf.ensures; top_is = c.node.ensures; first = c.hang.ensures; second = c.hang-2.ensures; third = c.hang-3.ensures; fourth = c.put_link.ensures })
+
+pub returns-clause-few : goal.returns-clause-few
+returns-clause-few g c =
+    unlink_few _ _ _ _ _ _ _ _ _ _ _ _ (record { none_is = refl; leaf_is = c.leaf.ensures; top_is = c.node.ensures; first = c.hang.ensures; second = c.hang-2.ensures; third = c.hang-3.ensures; fourth = c.put_link.ensures })

@@ -1,6 +1,6 @@
 use Rattle.std.proofs.Common.{◌≡◌, ◌<◌, negsuc, sym, ap, ◌∙◌, subst, arith}
 use Rattle.std.proofs.Common.{w16, rules}
-use mir.Val.{SFits}
+use mir.Val.{SFits, to_z, of_z}
 use Rattle.std.proofs.lemmas.Int.{to_z-of_z}
 use Rattle.eb_arena.specs.declared.links.Side.TheVariants as sides
 use Rattle.eb_arena.specs.Parts.{up_of}
@@ -8,6 +8,7 @@ use Rattle.eb_dups.specs.Grown.{attached}
 use Rattle.eb_dups.specs.Spine.{depth_of}
 use Rattle.eb_dups.specs.Added.{AddsTwin}
 use Rattle.eb_dups.proofs.Ending.{head_twins, slot_depth, slot_hangs, slot_place, twin_added}
+use Rattle.eb_dups.proofs.Cost.{few_attached}
 use Rattle.eb_dups.proofs.twins.insert_dup.Goals as goal
 
 pub slot_below-slot-requires : goal.slot_below-slot-requires
@@ -24,9 +25,13 @@ attach-requires-clause-hangs g c = slot_hangs c.args.arena.now c.args.head c.slo
 pub attach-requires-clause-place_exists : goal.attach-requires-clause-place_exists
 attach-requires-clause-place_exists g c = slot_place c.args.arena.now c.args.head c.slot_below-slot.result _ c.requires.head c.slot_below-slot.ensures
 
-pub returns : goal.returns
-returns g c =
+pub returns-clause-adds : goal.returns-clause-adds
+returns-clause-adds g c =
     let f : SFits w16 c.bit_above-bit.result = search rules in
     let b : c.bit_above-bit.result ≡ negsuc (depth_of c.args.arena.now c.slot_below-slot.result) = c.bit_above-bit.ensures ∙ ap negsuc c.depth_at.ensures in
     let e : c.attach.new.arena ≡ attached c.args.arena.now c.slot_below-slot.result (up_of c.args.arena.now c.slot_below-slot.result) c.args.entry sides.Right (negsuc (depth_of c.args.arena.now c.slot_below-slot.result)) = c.attach.ensures ∙ ap (attached c.args.arena.now c.slot_below-slot.result (up_of c.args.arena.now c.slot_below-slot.result) c.args.entry sides.Right) (to_z-of_z w16 c.bit_above-bit.result f ∙ b) in
     subst (λ z. AddsTwin c.args.arena.now z c.args.head c.args.entry) (sym e) (twin_added c.args.arena.now c.args.head c.slot_below-slot.result c.args.entry c.requires.head c.slot_below-slot.ensures c.requires.exists c.requires.free)
+
+pub returns-clause-few : goal.returns-clause-few
+returns-clause-few g c =
+    few_attached c.args.arena.now c.attach.new.arena c.slot_below-slot.result (up_of c.args.arena.now c.slot_below-slot.result) c.args.entry sides.Right (to_z w16 (of_z w16 c.bit_above-bit.result)) c.attach.ensures

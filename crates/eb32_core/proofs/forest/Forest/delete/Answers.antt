@@ -13,9 +13,9 @@ uproot-requires-clause-in_tree g c =
 pub invariant_of-self : goal.invariant_of-self
 invariant_of-self g c =
     let f : Grove = record { parts = c.self.inside.arena; made = c.self.inside.made.items } in
-    left_tended f c.uproot.new.arena c.args.entry c.self.invariant (subst (λ x. IsPlaced c.args.entry (seen_of x)) (sym c.self.view_is) c.requires) c.uproot.ensures
+    left_tended f c.uproot.new.arena c.args.entry c.self.invariant (subst (λ x. IsPlaced c.args.entry (seen_of x)) (sym c.self.view_is) c.requires) c.uproot.ensures.uproots
 
-pub returns : goal.returns
-returns g c =
+pub returns-clause-deletes : goal.returns-clause-deletes
+returns-clause-deletes g c =
     let f : Grove = record { parts = c.self.inside.arena; made = c.self.inside.made.items } in
-    subst (λ x. (root : ℕ) → StandsIn root c.args.entry (seen_of x) → seen_of (record { parts = c.uproot.new.arena; made = f.made }) ≡ deleted_from root c.args.entry (seen_of x)) c.self.view_is (left_seen f c.uproot.new.arena c.args.entry c.self.invariant c.uproot.ensures)
+    subst (λ x. (root : ℕ) → StandsIn root c.args.entry (seen_of x) → seen_of (record { parts = c.uproot.new.arena; made = f.made }) ≡ deleted_from root c.args.entry (seen_of x)) c.self.view_is (left_seen f c.uproot.new.arena c.args.entry c.self.invariant c.uproot.ensures.uproots)

@@ -4,6 +4,8 @@ use Rattle.sched_base.specs.KeyedList.{inserted_into, IsFree}
 use Rattle.eb_arena.specs.declared.links.Place.TheVariants as places
 use Rattle.eb_arena.specs.declared.element.Element.{Element}
 use Rattle.eb_arena.specs.Parts.{element_at, with_element}
+use Rattle.eb_dups.specs.Cost.{ChangesFew}
+use Rattle.eb_dups.proofs.Cost.{keeps_set, few_after}
 use Rattle.eb32_core.specs.Forest.{Grove, IsTended, seen_of}
 use Rattle.eb32_core.specs.Planted.{Plants, IsRoomy}
 use Rattle.eb32_core.proofs.Groves.{Inserted, keyed, key_leaf, roomy, inserted_grove}
@@ -38,21 +40,26 @@ invariant_of-self g c =
     let r : c.args.root < length f.parts.links = subst (λ x. c.args.root < length x.parts.links) (sym v) c.requires.root_exists in
     let e : c.args.entry < length f.parts.elements = subst (λ x. c.args.entry < length x.parts.elements) (sym v) c.requires.entry_exists in
     let n : (element_at f.parts c.args.entry).leaf_p ≡ places.Nowhere = free_nowhere f c.args.entry (tended f c.self.invariant) e (subst (λ x. IsFree c.args.entry (seen_of x)) (sym v) c.requires.free) in
-    let i : Inserted f (record { parts = c.plant.new.arena; made = set f.made c.args.root (slice_index f.made c.args.root + 1) }) c.args.root c.args.entry c.args.key = inserted_grove f c.plant.new.arena c.args.root c.args.entry c.args.key c.self.invariant r e n (subst (λ a. Plants a c.plant.new.arena c.args.root c.args.entry) se c.plant.ensures) in
+    let i : Inserted f (record { parts = c.plant.new.arena; made = set f.made c.args.root (slice_index f.made c.args.root + 1) }) c.args.root c.args.entry c.args.key = inserted_grove f c.plant.new.arena c.args.root c.args.entry c.args.key c.self.invariant r e n (subst (λ a. Plants a c.plant.new.arena c.args.root c.args.entry) se c.plant.ensures.plants) in
     let rm : c.args.root < length f.made = subst (λ y. c.args.root < y) (sym c.self.invariant.counts) r in
     let x : c.index_mut.result.now ≡ slice_index f.made c.args.root = c.index_mut.ensures.value ∙ get_or_default f.made c.args.root c.index_mut.result.now 0 rm in
     subst (λ y. IsTended (record { parts = c.plant.new.arena; made = set f.made c.args.root (y + 1) })) (sym x) i.tended
 
-pub returns : goal.returns
-returns g c =
+pub returns-clause-inserts : goal.returns-clause-inserts
+returns-clause-inserts g c =
     let f : Grove = record { parts = c.self.inside.arena; made = c.self.inside.made.items } in
     let v : f ≡ c.args.self.now = c.self.view_is in
     let se : c.set.new.self ≡ keyed c.self.inside.arena c.args.entry c.args.key = c.set.ensures ∙ ap (λ (el : Element). with_element c.self.inside.arena c.args.entry (record el { key = c.args.key })) c.element-element.ensures in
     let r : c.args.root < length f.parts.links = subst (λ x. c.args.root < length x.parts.links) (sym v) c.requires.root_exists in
     let e : c.args.entry < length f.parts.elements = subst (λ x. c.args.entry < length x.parts.elements) (sym v) c.requires.entry_exists in
     let n : (element_at f.parts c.args.entry).leaf_p ≡ places.Nowhere = free_nowhere f c.args.entry (tended f c.self.invariant) e (subst (λ x. IsFree c.args.entry (seen_of x)) (sym v) c.requires.free) in
-    let i : Inserted f (record { parts = c.plant.new.arena; made = set f.made c.args.root (slice_index f.made c.args.root + 1) }) c.args.root c.args.entry c.args.key = inserted_grove f c.plant.new.arena c.args.root c.args.entry c.args.key c.self.invariant r e n (subst (λ a. Plants a c.plant.new.arena c.args.root c.args.entry) se c.plant.ensures) in
+    let i : Inserted f (record { parts = c.plant.new.arena; made = set f.made c.args.root (slice_index f.made c.args.root + 1) }) c.args.root c.args.entry c.args.key = inserted_grove f c.plant.new.arena c.args.root c.args.entry c.args.key c.self.invariant r e n (subst (λ a. Plants a c.plant.new.arena c.args.root c.args.entry) se c.plant.ensures.plants) in
     let rm : c.args.root < length f.made = subst (λ y. c.args.root < y) (sym c.self.invariant.counts) r in
     let x : c.index_mut.result.now ≡ slice_index f.made c.args.root = c.index_mut.ensures.value ∙ get_or_default f.made c.args.root c.index_mut.result.now 0 rm in
     let s : seen_of (record { parts = c.plant.new.arena; made = set f.made c.args.root (c.index_mut.result.now + 1) }) ≡ inserted_into c.args.root c.args.entry c.args.key (seen_of f) = ap (λ y. seen_of (record { parts = c.plant.new.arena; made = set f.made c.args.root (y + 1) })) x ∙ i.seen in
     s ∙ ap (λ y. inserted_into c.args.root c.args.entry c.args.key (seen_of y)) v
+
+pub returns-clause-few : goal.returns-clause-few
+returns-clause-few g c =
+    let f : Grove = record { parts = c.self.inside.arena; made = c.self.inside.made.items } in
+    subst (λ x. ChangesFew 3 c.args.entry x.parts c.plant.new.arena) c.self.view_is (few_after 3 c.args.entry f.parts c.set.new.self c.plant.new.arena (keeps_set f.parts c.set.new.self c.args.entry _ c.set.ensures) c.plant.ensures.few)
