@@ -155,6 +155,11 @@ fn keeps_keys_in_order(rt: HostRuntime) -> Result<(), Fail> {
         [0, 2, 1].as_slice()
     );
     assert_eq!(rt; arena.roots(), 1);
+    assert_eq!(rt; arena.entries(), 3);
+    let (upper, lower) = (arena.element(1), arena.element(2));
+    assert_eq!(rt; (upper.bit, lower.bit), (1, 0));
+    assert_eq!(rt; (upper.left, upper.right), (Link::node(2), Link::leaf(1)));
+    assert_eq!(rt; (lower.left, lower.right), (Link::leaf(0), Link::leaf(2)));
     assert_eq!(rt; lookup_ge(arena, 0, 5), Some(2));
     assert_eq!(rt; lookup_ge(arena, 0, 7), None);
     assert_eq!(rt; lookup_le(arena, 0, 5), Some(2));
