@@ -5,27 +5,42 @@ ghost use Rattle.eb_arena.specs.Parts.{element_at, link_at, unused, with_element
 ghost use Rattle.eb_arena.specs.declared.links.Target.TheVariants as targets;
 
 use crate::element::Element;
-use crate::links::Link;
+use crate::links::{Link, Up};
 use std::alloc::{AllocError, Global};
 use std::marker::Model;
+
+/// The key of a leaf and the bit of a node.
+#[derive(Clone, Copy, Debug)]
+pub(crate) struct Label {
+    pub(crate) key: u32,
+    pub(crate) bit: i16,
+}
 
 /// Elements and roots in fixed room. Contracts see the list of the elements and the list of what
 /// hangs on the roots.
 #[derive(Debug, Drop)]
 pub struct Arena {
-    elements: Vec<Element>,
-    links: Vec<Link>,
+    /// What hangs at each side of a node, by the place's number: 2i at the left of node i, 2i + 1
+    /// at its right.
+    pub(crate) downs: Vec<Link>,
+    /// Where each part hangs, by the part's number: 2i for leaf i, 2i + 1 for node i.
+    pub(crate) ups: Vec<Up>,
+    /// The key of each leaf and the bit of each node.
+    pub(crate) labels: Vec<Label>,
+    /// What hangs on each root.
+    pub(crate) links: Vec<Link>,
 }
 
 impl Model for Arena {
-    ghost use Rattle.std.specs.Prelude.{◌+◌, ◌<◌, length};
     ghost use Rattle.eb_arena.specs.Parts.{Parts};
 
     ghost Value = { Parts };
 
-    ghost view = { λ a. record { elements = a.elements.items; links = a.links.items } };
+    ghost use Rattle.eb_arena.specs.Columns.{parts_of, Fits};
 
-    ghost invariant = { λ a. length a.links.items + length a.elements.items < 2147483647 };
+    ghost view = { λ a. parts_of a.downs.items a.ups.items a.labels.items a.links.items };
+
+    ghost invariant = { λ a. Fits a.downs.items a.ups.items a.labels.items a.links.items };
 }
 
 impl Arena {
@@ -35,9 +50,17 @@ impl Arena {
         requires { roots + entries < 2147483647 }
         ensures { IfOk result (λ a. a ≡ record { elements = replicate entries unused; links = replicate roots targets.Nothing }) }
     {
-        let elements = vec![in alloc; Element::UNUSED; entries as usize]?;
+        let entries = entries as usize;
+        let downs = vec![in alloc; Link::NONE; 2 * entries]?;
+        let ups = vec![in alloc; Up::NONE; 2 * entries]?;
+        let labels = vec![in alloc; Label { key: 0, bit: 0 }; entries]?;
         let links = vec![in alloc; Link::NONE; roots as usize]?;
-        Ok(Arena { elements, links })
+        Ok(Arena {
+            downs,
+            ups,
+            labels,
+            links,
+        })
     }
 
     /// The number of entries, which number the elements from 0 on.
@@ -45,7 +68,7 @@ impl Arena {
         ensures count { result ≡ length self.now.elements }
         ensures room { length self.now.links + length self.now.elements < 2147483647 }
     {
-        self.elements.len() as u32
+        self.labels.len() as u32
     }
 
     /// The number of roots.
@@ -61,7 +84,16 @@ impl Arena {
         requires { index < length self.now.elements }
         ensures { result ≡ element_at self.now index }
     {
-        self.elements[index as usize]
+        let entry = index as usize;
+        let label = self.labels[entry];
+        Element {
+            left: self.downs[2 * entry],
+            right: self.downs[2 * entry + 1],
+            node_p: self.ups[2 * entry + 1],
+            leaf_p: self.ups[2 * entry],
+            key: label.key,
+            bit: label.bit,
+        }
     }
 
     /// Puts an element in the place of the one with this index.
@@ -69,7 +101,15 @@ impl Arena {
         requires { index < length self.old.elements }
         ensures { self.new ≡ with_element self.old index element }
     {
-        self.elements[index as usize] = element;
+        let entry = index as usize;
+        self.downs[2 * entry] = element.left;
+        self.downs[2 * entry + 1] = element.right;
+        self.ups[2 * entry] = element.leaf_p;
+        self.ups[2 * entry + 1] = element.node_p;
+        self.labels[entry] = Label {
+            key: element.key,
+            bit: element.bit,
+        };
     }
 
     /// What hangs on a root.

@@ -7,7 +7,7 @@ ghost use Rattle.eb_arena.specs.declared.links.Target.TheVariants as targets;
 ghost use Rattle.eb_arena.specs.declared.links.Place.TheVariants as places;
 
 use crate::arena::Arena;
-use crate::links::{Link, Side, Up};
+use crate::links::{Link, Up};
 
 impl Arena {
     /// Where the leaf or the node that a link leads to hangs.
@@ -16,12 +16,7 @@ impl Arena {
         requires exists { index_of part < length self.now.elements }
         ensures { result ≡ up_of self.now part }
     {
-        let element = self.element(part.index());
-        if part.is_leaf() {
-            element.leaf_p
-        } else {
-            element.node_p
-        }
+        self.ups[part.number() as usize]
     }
 
     /// Writes where the leaf or the node that a link leads to hangs, and nothing else.
@@ -30,14 +25,7 @@ impl Arena {
         requires exists { index_of part < length self.old.elements }
         ensures { self.new ≡ hung self.old part up }
     {
-        let index = part.index();
-        let mut element = self.element(index);
-        if part.is_leaf() {
-            element.leaf_p = up;
-        } else {
-            element.node_p = up;
-        }
-        self.set(index, element);
+        self.ups[part.number() as usize] = up;
     }
 
     /// Writes what hangs at a place, which is a side of a node or a root, and nothing else.
@@ -52,11 +40,6 @@ impl Arena {
             self.set_root(index - entries, part);
             return;
         }
-        let mut element = self.element(index);
-        match up.side() {
-            Side::Left => element.left = part,
-            Side::Right => element.right = part,
-        }
-        self.set(index, element);
+        self.downs[up.number() as usize] = part;
     }
 }

@@ -1,0 +1,5 @@
+use Rattle.eb_arena.proofs.Columns.{has_room}
+use Rattle.eb_arena.proofs.arena.Arena.roots.Goals as goal
+
+pub returns-clause-room : goal.returns-clause-room
+returns-clause-room c = has_room _ _ _ _ c.args.self.now c.self.view_is c.self.invariant
