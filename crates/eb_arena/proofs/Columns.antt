@@ -1,9 +1,7 @@
 -- The columns of an arena, and the elements that they hold.
-use Rattle.std.proofs.Common.{◌≡◌, ◌≢◌, ℕ, zero, suc, ◌+◌, ◌-◌, ◌*◌, ◌<◌, ◌≤◌, ℤ, inl, inr, List, [], ◌∷◌, length, get_or, set, replicate, refl, sym, ap, ◌∙◌, subst, arith}
-use Rattle.std.specs.Prelude.{if◌then◌else◌, nat_lt, pos, true, false}
+use Rattle.std.proofs.Common.{◌≡◌, ◌≢◌, ℕ, zero, suc, ◌+◌, ◌-◌, ◌*◌, ◌<◌, ◌≤◌, ℤ, List, [], ◌∷◌, length, get_or, set, replicate, refl, sym, ap, ◌∙◌, lt-ltb, arith}
+use Rattle.std.specs.Prelude.{if◌then◌else◌, nat_lt, true}
 use Rattle.std.proofs.lemmas.List.{get_or-set_same, get_or-set_other, get_or-replicate, length-replicate, length-set}
-use Rattle.std.proofs.lemmas.Bool.{cases_eq}
-use Rattle.std.proofs.Common.{lt-ltb, le-ltb}
 use Rattle.eb_arena.specs.declared.links.Side.{Side}
 use Rattle.eb_arena.specs.declared.links.Side.TheVariants as sides
 use Rattle.eb_arena.specs.declared.links.Target.{Target}
@@ -13,7 +11,7 @@ use Rattle.eb_arena.specs.declared.links.Place.TheVariants as places
 use Rattle.eb_arena.specs.declared.element.Element.{Element}
 use Rattle.eb_arena.specs.declared.arena.Label.{Label}
 use Rattle.eb_arena.specs.Links.{index_of, link_number, place_index, up_number}
-use Rattle.eb_arena.specs.Parts.{Parts, element_at, link_at, unused, with_element, with_link, with_child, up_of, hung, linked}
+use Rattle.eb_arena.specs.Parts.{Parts, element_at, unused, with_element, with_link, with_child, up_of, hung, linked}
 use Rattle.eb_arena.specs.Columns.{from, no_label, element_of, parts_of, Fits}
 
 pub length-from : {X : Type 0} (f : ℕ → X) (k n : ℕ) → length (from f k n) ≡ n

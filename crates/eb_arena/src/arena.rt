@@ -11,9 +11,9 @@ use std::marker::Model;
 
 /// The key of a leaf and the bit of a node.
 #[derive(Clone, Copy, Debug)]
-pub(crate) struct Label {
-    pub(crate) key: u32,
-    pub(crate) bit: i16,
+struct Label {
+    key: u32,
+    bit: i16,
 }
 
 /// Elements and roots in fixed room. Contracts see the list of the elements and the list of what
@@ -26,9 +26,9 @@ pub struct Arena {
     /// Where each part hangs, by the part's number: 2i for leaf i, 2i + 1 for node i.
     pub(crate) ups: Vec<Up>,
     /// The key of each leaf and the bit of each node.
-    pub(crate) labels: Vec<Label>,
+    labels: Vec<Label>,
     /// What hangs on each root.
-    pub(crate) links: Vec<Link>,
+    links: Vec<Link>,
 }
 
 impl Model for Arena {

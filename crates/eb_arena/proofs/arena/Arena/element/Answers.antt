@@ -1,4 +1,4 @@
-use Rattle.std.proofs.Common.{◌≡◌, w16, ◌<◌, ◌*◌, refl, length, arith, rules}
+use Rattle.std.proofs.Common.{w16, refl, arith, rules}
 use mir.Val.{SFits}
 use Rattle.std.proofs.lemmas.Int.{to_z-of_z}
 use Rattle.eb_arena.proofs.Columns.{counted, assembled}

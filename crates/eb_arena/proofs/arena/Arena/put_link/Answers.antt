@@ -1,4 +1,4 @@
-use Rattle.std.proofs.Common.{◌≡◌, ◌<◌, length, subst, sym, arith, tests}
+use Rattle.std.proofs.Common.{◌<◌, length, subst, sym, arith, tests}
 use Rattle.eb_arena.specs.Links.{place_index}
 use Rattle.eb_arena.proofs.Columns.{place_fits, place_put}
 use Rattle.eb_arena.proofs.arena.Arena.put_link.Goals as goal

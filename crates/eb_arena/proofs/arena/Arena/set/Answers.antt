@@ -1,6 +1,5 @@
-use Rattle.std.proofs.Common.{◌≡◌, w16, ◌<◌, ◌*◌, length, arith}
+use Rattle.std.proofs.Common.{w16, arith, rules}
 use mir.Val.{SFits}
-use Rattle.std.proofs.Common.{rules}
 use Rattle.std.proofs.lemmas.Int.{to_z-of_z}
 use Rattle.eb_arena.proofs.Columns.{counted, written}
 use Rattle.eb_arena.proofs.arena.Arena.set.Goals as goal
