@@ -1,7 +1,9 @@
 -- The walk down a right spine to the slot for a new node.
-use Rattle.std.proofs.Common.{◌≡◌, ℕ, suc, ◌+◌, ◌*◌, ◌^◌, ◌<◌, ◌≤◌, List, [], ◌∷◌, ◌++◌, length, refl, sym, ap, ◌∙◌, subst, arith, unsigned_abs}
+use Rattle.std.proofs.Common.{◌≡◌, ℕ, suc, inl, inr, ◌+◌, ◌*◌, ◌^◌, ◌<◌, ◌≤◌, List, [], ◌∷◌, ◌++◌, length, refl, sym, ap, ◌∙◌, subst, arith, unsigned_abs}
 use Rattle.std.specs.Prelude.{pos, negsuc}
+use Rattle.std.proofs.lemmas.Bool.{cases_lt}
 use Rattle.std.proofs.lemmas.Nat.{pow-add}
+use Rattle.eb_arena.proofs.Ways.{part_split}
 use Rattle.eb_arena.specs.declared.links.Side.TheVariants as sides
 use Rattle.eb_arena.specs.declared.links.Target.{Target}
 use Rattle.eb_arena.specs.declared.links.Target.TheVariants as targets
@@ -233,3 +235,22 @@ step_down a head slot here next i deep low w n e d b =
       slot_down = λ lt. subst (λ t. Walk a head t t) (sym e) (s.slot_down (omega (arith, lt, d, h, r)));
       slot_stays = λ ge. subst (Walk a head slot) (sym e) (s.slot_stays (λ lt. omega (arith, lt, ge, d, h, r)));
     }
+
+-- where the walk is, there is a tree of equal keys
+pub here_twins : (a : Parts) (head slot here : Target) → Walk a head slot here → IsTwinTree a here
+here_twins a head slot here w = record { place = w.at_place; tree = w.at; stands = w.at_stands; split = w.at_split; twins = w.at_twins }
+
+-- and so there is a step further down
+pub next_twins : (a : Parts) (head slot here next : Target) (i : ℕ) → Walk a head slot here → targets.Node i ≡ here → next ≡ (element_at a i).right → IsTwinTree a next
+next_twins a head slot here next i w n e =
+    let s : Spot a head slot i = spot a head slot here i w n in
+    let t : IsTwinTree a (element_at a i).right = elim (cases_lt (depth_of a (element_at a i).right) s.n) [
+      | inl lt ↦ here_twins a head (element_at a i).right (element_at a i).right (s.slot_down lt)
+      | inr le ↦ here_twins a head slot (element_at a i).right (s.slot_stays (λ lt. omega (arith, lt, le)))
+    ] in
+    subst (IsTwinTree a) (sym e) t
+
+-- the slot too
+pub slot_twins : (a : Parts) (head slot : Target) → IsSlot a head slot → IsTwinTree a slot
+slot_twins a head slot s =
+    record { place = s.part_place; tree = s.part; stands = s.part_stands; split = part_split s.steps s.part (subst Split s.part_is s.split); twins = s.twins }

@@ -15,19 +15,18 @@ use sched_base::Steps;
 use std::sync::ledger::Ledger;
 
 /// Minus the bit of a node of equal keys; 0 for a leaf.
-fn depth_at(arena: &Arena, part: Link) -> u16
-    requires some { part ≢ targets.Nothing }
-    requires exists { index_of part < length arena.now.elements }
+fn depth_at(arena: &Arena, part: Link) -> u32
+    requires { IsTwinTree arena.now part }
     ensures { result ≡ depth_of arena.now part }
 {
     if part.is_leaf() {
         return 0;
     }
-    arena.element(part.index()).bit.unsigned_abs()
+    -i32::from(arena.element(part.index()).bit) as u32
 }
 
 /// The bit of a node just above one of this depth.
-fn bit_above(depth: u16) -> i16
+fn bit_above(depth: u32) -> i16
     requires { depth < 32768 }
     ensures { result ≡ negsuc depth }
 {

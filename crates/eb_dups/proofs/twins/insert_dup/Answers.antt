@@ -9,6 +9,7 @@ use Rattle.eb_dups.specs.Spine.{depth_of}
 use Rattle.eb_dups.specs.Added.{AddsTwin}
 use Rattle.eb_dups.proofs.Ending.{head_twins, slot_depth, slot_hangs, slot_place, twin_added}
 use Rattle.eb_dups.proofs.Cost.{few_attached}
+use Rattle.eb_dups.proofs.Descent.{slot_twins}
 use Rattle.eb_dups.proofs.twins.insert_dup.Goals as goal
 
 pub slot_below-slot-requires : goal.slot_below-slot-requires
@@ -35,3 +36,6 @@ returns-clause-adds g c =
 pub returns-clause-few : goal.returns-clause-few
 returns-clause-few g c =
     few_attached c.args.arena.now c.attach.new.arena c.slot_below-slot.result (up_of c.args.arena.now c.slot_below-slot.result) c.args.entry sides.Right (to_z w16 (of_z w16 c.bit_above-bit.result)) c.attach.ensures
+
+pub depth_at-requires : goal.depth_at-requires
+depth_at-requires g c = slot_twins _ c.args.head _ c.slot_below-slot.ensures

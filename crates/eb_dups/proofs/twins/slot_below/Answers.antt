@@ -1,7 +1,7 @@
 use Rattle.std.proofs.Common.{◌≡◌, ap}
 use Rattle.eb_arena.specs.declared.links.Target.TheVariants as targets
 use Rattle.eb_arena.proofs.LeafOrNode.{node_is, leaf_is_no_node}
-use Rattle.eb_dups.proofs.Descent.{SpineStep, walk_start, walk_end, here_some, step_down}
+use Rattle.eb_dups.proofs.Descent.{SpineStep, walk_start, walk_end, here_some, step_down, next_twins}
 use Rattle.eb_dups.proofs.twins.slot_below.Goals as goal
 
 pub loop-here-init : goal.loop-here-init
@@ -21,3 +21,8 @@ loop-here-preserved g c =
 
 pub returns : goal.returns
 returns g c = walk_end c.args.arena.now c.args.head c.loop-here.slot c.loop-here.here c.loop-here.invariant.walk (leaf_is_no_node _ _ c.is_leaf.ensures c.loop-here-test.false)
+
+pub depth_at-below-requires : goal.depth_at-below-requires
+depth_at-below-requires g c =
+    let n : targets.Node c.index.result ≡ c.loop-here.here = node_is _ _ _ (here_some _ _ _ _ c.loop-here.invariant.walk) c.is_leaf.ensures c.loop-here-test.true c.index.ensures in
+    next_twins _ _ _ _ _ _ c.loop-here.invariant.walk n (ap (λ x. x.right) c.element-down.ensures)
