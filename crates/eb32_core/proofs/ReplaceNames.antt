@@ -47,11 +47,7 @@ root_place_same a e h q f =
     let n : length a.elements + q ≡ e → ⊥ = λ k. absurd (omega arith) in
     ap (λ m. places.Under m sides.Left) (index_other e h (length a.elements + q) n)
 
--- leaves and items stay, and so do spines
-pub renamed_leaf : (e h x : ℕ) (t : Tree) → HasLeaf x t → HasLeaf x (renamed e h t)
-renamed_leaf e h x (tip i k) g = g
-renamed_leaf e h x (fork i b l r) g = elim g [ inl g ↦ inl (renamed_leaf e h x l g) | inr g ↦ inr (renamed_leaf e h x r g) ]
-
+-- items stay, and so do spines
 pub renamed_items : (e h : ℕ) (t : Tree) → items (renamed e h t) ≡ items t
 renamed_items e h (tip i k) = refl
 renamed_items e h (fork i b l r) = ap (λ xs. xs ++ items (renamed e h r)) (renamed_items e h l) ∙ ap (λ ys. items l ++ ys) (renamed_items e h r)

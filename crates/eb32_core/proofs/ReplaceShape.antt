@@ -22,7 +22,8 @@ use Rattle.eb_dups.proofs.Ending.{up_of_is, place_bound}
 use Rattle.eb32_core.specs.Removal.{renamed, IsLoose, MayReplace, Replaces}
 use Rattle.eb32_core.proofs.ReplaceHeld.{held, held_node}
 use Rattle.eb32_core.proofs.ReplaceWrites.{Replaceable, Replacing, replaced, replacing}
-use Rattle.eb32_core.proofs.ReplaceNames.{renamed_target, renamed_leaf, renamed_node, renamed_heir, renamed_none}
+use Rattle.eb32_core.proofs.UnlinkNames.{renamed_leaf}
+use Rattle.eb32_core.proofs.ReplaceNames.{renamed_target, renamed_node, renamed_heir, renamed_none}
 use Rattle.eb32_core.proofs.ReplaceTrees.{root_held, root_renamed, root_stands}
 
 -- where a leaf is out, its node is in no tree that is split
@@ -135,7 +136,7 @@ loose_shape a z ts q e h l u g =
       ];
       leaves = λ i f n.
           let x : InSome a ts (HasLeaf i) = l.leaves i (subst (λ m. i < m) g.count f) (λ k. n (still_nowhere a z e h (targets.Leaf i) r g (λ y. let w : targets.Node h ≡ targets.Leaf i = y in cc) k)) in
-          later_in a z ts q l.tree new (HasLeaf i) g.roots l.tree_is (renamed_leaf e h i l.tree) x;
+          later_in a z ts q l.tree new (HasLeaf i) g.roots l.tree_is (renamed_leaf e h l.tree i) x;
       nodes = λ i f n. elim (cases_eq i h) [
         | inl k ↦ subst (λ y. InSome z us (HasNode y)) (sym k) heir
         | inr d ↦

@@ -78,8 +78,3 @@ unlinked_uproots a b e h u n ts q sh f s =
       items_are = x.items_are;
       spines = x.spines;
     }
-
--- what the test of no place says of it
-pub nowhere_is : (p : Place) (b : Bool) → b ≡ is_nowhere p → b ≡ true → p ≡ places.Nowhere
-nowhere_is places.Nowhere b e h = refl
-nowhere_is (places.Under i s) b e h = let x : true ≡ false = sym h ∙ e in cc

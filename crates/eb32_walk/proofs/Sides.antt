@@ -1,5 +1,5 @@
 -- Whether two sides are the same.
-use Rattle.std.proofs.Common.{◌≡◌, Bool, true, false, not, refl, sym, ◌∙◌}
+use Rattle.std.proofs.Common.{◌≡◌, Bool, true, false, refl, sym, ◌∙◌}
 use denote.Enum.Bare.{sameb}
 use Rattle.eb_arena.specs.contracts.links.Side.{the_type}
 use Rattle.eb_arena.specs.declared.links.Side.{Side}
@@ -7,18 +7,6 @@ use Rattle.eb_arena.specs.declared.links.Side.TheVariants as sides
 
 not_true_false : true ≡ false → ⊥
 not_true_false h = cc
-
-pub sides_differ : (s t u : Side) (b : Bool) → b ≡ true → b ≡ not (sameb the_type s t) → s ≡ u → u ≡ t → ⊥
-sides_differ sides.Left sides.Left u b h g e f = let x : true ≡ false = sym h ∙ g in not_true_false x
-sides_differ sides.Right sides.Right u b h g e f = let x : true ≡ false = sym h ∙ g in not_true_false x
-sides_differ sides.Left sides.Right u b h g e f = let x : sides.Left ≡ sides.Right = e ∙ f in cc
-sides_differ sides.Right sides.Left u b h g e f = let x : sides.Right ≡ sides.Left = e ∙ f in cc
-
-pub sides_same : (s t u : Side) (b : Bool) → b ≡ false → b ≡ not (sameb the_type s t) → s ≡ u → u ≡ t
-sides_same sides.Left sides.Left u b h g e = sym e
-sides_same sides.Right sides.Right u b h g e = sym e
-sides_same sides.Left sides.Right u b h g e = let x : true ≡ false = sym g ∙ h in absurd (not_true_false x)
-sides_same sides.Right sides.Left u b h g e = let x : true ≡ false = sym g ∙ h in absurd (not_true_false x)
 
 pub eq_same : (s t u : Side) (b : Bool) → b ≡ true → b ≡ sameb the_type s t → s ≡ u → u ≡ t
 eq_same sides.Left sides.Left u b h g e = sym e
