@@ -8,7 +8,7 @@ use Rattle.eb_arena.specs.declared.links.Target.TheVariants as targets
 use Rattle.eb_arena.specs.declared.links.Place.{Place}
 use Rattle.eb_arena.specs.declared.links.Place.TheVariants as places
 use Rattle.eb_arena.specs.Parts.{Parts}
-use Rattle.eb_arena.specs.Shape.{Tree, tip, fork, items, HasLeaf, HasNode, root_place}
+use Rattle.eb_arena.specs.Shape.{Tree, tip, fork, items, HasNode, root_place}
 use Rattle.eb_dups.specs.Spine.{spine_value}
 use Rattle.eb32_core.specs.Planted.{Spines}
 use Rattle.eb32_core.specs.Removal.{renamed}

@@ -19,6 +19,7 @@ use Rattle.eb_dups.specs.Grown.{with_tree}
 use Rattle.eb_dups.proofs.Distinct.{node_leaf}
 use Rattle.eb_dups.proofs.Regrown.{top_node, tree_at, tree_other}
 use Rattle.eb_dups.proofs.Ending.{up_of_is, place_bound}
+use Rattle.eb_dups.proofs.LeftOfRoot.{left_of_root}
 use Rattle.eb32_core.specs.Removal.{renamed, IsLoose, MayReplace, Replaces}
 use Rattle.eb32_core.proofs.ReplaceHeld.{held, held_node}
 use Rattle.eb32_core.proofs.ReplaceWrites.{Replaceable, Replacing, replaced, replacing}
@@ -85,6 +86,7 @@ replaceable a ts q e h l u =
       unused = l.unused;
       hangs = u;
       place_exists = place_bound a q (element_at a e).node_p w.way w.leads l.exists;
+      place_left = left_of_root a q (element_at a e).node_p w.way w.leads;
       place_not = way_not a q h (element_at a e).node_p w.way w.leads l.heir_exists l.unused;
       place_held = node_held a e l.tree (link_at a q) (root_place a q) l.stands (root_held a q) n;
     }

@@ -1,5 +1,5 @@
 -- What is read where one node was put in the place of another.
-use Rattle.std.proofs.Common.{◌≡◌, ℕ, ◌+◌, ◌<◌, length, refl, sym, ap, ◌∙◌, subst}
+use Rattle.std.proofs.Common.{◌≡◌, ℕ, ◌+◌, ◌<◌, ◌≤◌, length, refl, sym, ap, ◌∙◌, subst}
 use Rattle.std.proofs.lemmas.List.{length-set}
 use Rattle.eb_arena.specs.declared.links.Side.{Side}
 use Rattle.eb_arena.specs.declared.links.Side.TheVariants as sides
@@ -45,6 +45,7 @@ pub record Replaceable (a : Parts) (e h : ℕ) : Type 0 where
   pub unused : (element_at a h).node_p ≡ places.Nowhere
   pub hangs : (element_at a e).node_p ≡ places.Nowhere → ⊥
   pub place_exists : place_index (element_at a e).node_p < length a.elements + length a.links
+  pub place_left : length a.elements ≤ place_index (element_at a e).node_p → place_side (element_at a e).node_p ≡ sides.Left
   pub place_not : place_index (element_at a e).node_p ≡ h → ⊥
   pub place_held : held a (element_at a e).node_p ≡ targets.Node e
 
@@ -173,14 +174,24 @@ written a b c d w e h n el p o t hn hp hb ho hc ht hd he hw =
     let put : Element → Element → Element = λ x y. record x { left = y.left; right = y.right; node_p = y.node_p; bit = y.bit } in
     hw ∙ (ap (λ x. with_element x h (put el n)) ed ∙ (ap (λ x. with_element (rehung a e h) h (put x n)) ee ∙ ap (λ x. with_element (rehung a e h) h (put (element_at (rehung a e h) h) x)) hn))
 
+-- it has as many elements
+moved_count : (a : Parts) (e h : ℕ) → Replaceable a e h → length (moved a e h).elements ≡ length a.elements
+moved_count a e h r = length-set (rehung a e h).elements h (heir_element a e h) ∙ (rehung_is a e h r).down.count
+
 -- the place of the node exists in it
 pub written_place : (a b c d w : Parts) (e h : ℕ) (n el : Element) (p o : Place) (t : Target) → Replaceable a e h → n ≡ element_at a e → p ≡ places.Under h sides.Left → b ≡ hung a n.left p → o ≡ places.Under h sides.Right → c ≡ hung b n.right o → t ≡ targets.Node e → d ≡ hung c t places.Nowhere → el ≡ element_at d h → w ≡ with_element d h (record el { left = n.left; right = n.right; node_p = n.node_p; bit = n.bit }) → place_index n.node_p < length w.elements + length w.links
 written_place a b c d w e h n el p o t r hn hp hb ho hc ht hd he hw =
     let is : w ≡ moved a e h = written a b c d w e h n el p o t hn hp hb ho hc ht hd he hw in
     let up : Rehung a (rehung a e h) e h = rehung_is a e h r in
-    let count : length (moved a e h).elements ≡ length a.elements = length-set (rehung a e h).elements h (heir_element a e h) ∙ up.down.count in
+    let count : length (moved a e h).elements ≡ length a.elements = moved_count a e h r in
     let f : place_index (element_at a e).node_p < length w.elements + length w.links = subst (λ x. place_index (element_at a e).node_p < length x.elements + length x.links) (sym is) (subst (λ x. place_index (element_at a e).node_p < x + length (rehung a e h).links) (sym count) (subst (λ x. place_index (element_at a e).node_p < length a.elements + length x) (sym up.down.links) r.place_exists)) in
     subst (λ x. place_index x.node_p < length w.elements + length w.links) (sym hn) f
+
+-- and is a left side at a root
+pub written_left : (a w : Parts) (e h : ℕ) (n : Element) → Replaceable a e h → n ≡ element_at a e → w ≡ moved a e h → length w.elements ≤ place_index n.node_p → place_side n.node_p ≡ sides.Left
+written_left a w e h n r hn hw f =
+    let c : length w.elements ≡ length a.elements = ap (λ x. length x.elements) hw ∙ moved_count a e h r in
+    subst (λ x. length a.elements ≤ place_index x.node_p → place_side x.node_p ≡ sides.Left) (sym hn) r.place_left (subst (λ x. x ≤ place_index n.node_p) c f)
 
 -- and after it
 pub linked_is : (a w : Parts) (e h : ℕ) (n : Element) (t : Target) → n ≡ element_at a e → t ≡ targets.Node h → w ≡ moved a e h → linked w n.node_p t ≡ replaced a e h

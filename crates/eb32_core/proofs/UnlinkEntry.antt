@@ -1,5 +1,5 @@
 -- The leaf of an entry, the node above it, and what is on its other side.
-use Rattle.std.proofs.Common.{◌≡◌, ℕ, ◌+◌, ◌<◌, List, [], ◌∷◌, length, refl, sym, ap, ◌∙◌, subst, arith}
+use Rattle.std.proofs.Common.{◌≡◌, ℕ, ◌+◌, ◌<◌, ◌≤◌, List, [], ◌∷◌, length, refl, sym, ap, ◌∙◌, subst, arith}
 use Rattle.std.specs.Prelude.{ℤ, Option, Some, None, IsSomeAnd}
 use Rattle.eb_arena.specs.declared.links.Side.TheVariants as sides
 use Rattle.eb_arena.specs.declared.links.Target.{Target}
@@ -13,6 +13,7 @@ use Rattle.eb_arena.specs.Way.{Step, from_left, from_right, plug, Leads}
 use Rattle.eb_arena.proofs.Ways.{LeafWay, leaf_way}
 use Rattle.eb_arena.proofs.Unique.{leads_somewhere}
 use Rattle.eb32_walk.specs.Ends.{IsIn}
+use Rattle.eb_dups.proofs.LeftOfRoot.{left_of_root}
 use Rattle.eb32_core.specs.Removal.{Unlinked, Unlinks}
 use Rattle.eb32_core.proofs.UnlinkSteps.{paired}
 use Rattle.eb32_core.proofs.UnlinkWrites.{cut}
@@ -79,6 +80,7 @@ pub record MayUnlink (a : Parts) (e : ℕ) (place : Place) : Type 0 where
   pub exists : index_of (beside a place) < length a.elements
   pub above : (element_at a (place_index place)).node_p ≡ places.Nowhere → ⊥
   pub above_exists : place_index (element_at a (place_index place)).node_p < length a.elements + length a.links
+  pub above_left : length a.elements ≤ place_index (element_at a (place_index place)).node_p → place_side (element_at a (place_index place)).node_p ≡ sides.Left
 
 part_some : (a : Parts) (part : Target) (place : Place) (t : Tree) → Stands a part place t → part ≡ targets.Nothing → ⊥
 part_some a part place (tip e k) s h = let z : targets.Nothing ≡ targets.Leaf e = sym h ∙ s.0 in cc
@@ -99,6 +101,7 @@ may_in a e q (Some t) f r h fp =
       exists = part_in a (beside a place) (places.Under (place_index place) (opposite (place_side place))) x.far x.hanging.stands;
       above = leads_somewhere a q (element_at a (place_index place)).node_p x.way x.hanging.leads;
       above_exists = place_in a q (element_at a (place_index place)).node_p x.way f x.hanging.leads;
+      above_left = left_of_root a q (element_at a (place_index place)).node_p x.way x.hanging.leads;
     }
 
 pub may_unlink : (a : Parts) (e : ℕ) → HasShape a → IsIn a e → place_index (element_at a e).leaf_p < length a.elements → MayUnlink a e (element_at a e).leaf_p

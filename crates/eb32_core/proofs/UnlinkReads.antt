@@ -1,13 +1,13 @@
 -- What is read before a leaf and the node above it go, and what the writes then make of the arena.
-use Rattle.std.proofs.Common.{◌≡◌, ℕ, ◌+◌, ◌<◌, length, refl, sym, ap, ◌∙◌, subst, arith}
-use Rattle.eb_arena.specs.declared.links.Side.{Side}
+use Rattle.std.proofs.Common.{◌≡◌, ℕ, ◌+◌, ◌<◌, ◌≤◌, length, refl, sym, ap, ◌∙◌, subst, arith}
+use Rattle.eb_arena.specs.declared.links.Side.TheVariants as sides
 use Rattle.eb_arena.specs.declared.links.Target.{Target}
 use Rattle.eb_arena.specs.declared.links.Target.TheVariants as targets
 use Rattle.eb_arena.specs.declared.links.Place.{Place}
 use Rattle.eb_arena.specs.declared.links.Place.TheVariants as places
 use Rattle.eb_arena.specs.declared.element.Element.{Element}
-use Rattle.eb_arena.specs.Links.{index_of, place_index, place_side, opposite}
-use Rattle.eb_arena.specs.Parts.{Parts, element_at, child, hung, linked}
+use Rattle.eb_arena.specs.Links.{index_of, place_index, place_side}
+use Rattle.eb_arena.specs.Parts.{Parts, element_at, hung, linked}
 use Rattle.eb_arena.specs.Shape.{HasShape}
 use Rattle.eb_dups.proofs.Moves.{hung_count}
 use Rattle.eb32_walk.specs.Ends.{IsIn}
@@ -16,48 +16,46 @@ use Rattle.eb32_core.proofs.UnlinkWrites.{loosened, raised, cut}
 use Rattle.eb32_core.proofs.UnlinkEntry.{beside, unlinked, unlinks, MayUnlink, may_unlink}
 
 -- what is read
-pub record Reads (a : Parts) (e : ℕ) (up node : Element) (freed : ℕ) (side far : Side) (sibling : Target) : Type 0 where
+pub record Reads (a : Parts) (e : ℕ) (up : Element) (freed : ℕ) (sibling : Target) (above : Place) : Type 0 where
   pub shape : HasShape a
   pub in_tree : IsIn a e
   pub below_node : place_index (element_at a e).leaf_p < length a.elements
   pub up_is : up ≡ element_at a e
   pub freed_is : freed ≡ place_index up.leaf_p
-  pub node_is : node ≡ element_at a freed
-  pub side_is : side ≡ place_side up.leaf_p
-  pub far_is : far ≡ opposite side
-  pub sibling_is : sibling ≡ child far node
+  pub sibling_is : sibling ≡ beside a up.leaf_p
+  pub above_is : above ≡ (element_at a (place_index up.leaf_p)).node_p
 
-freed_at : (a : Parts) (e : ℕ) (up node : Element) (freed : ℕ) (side far : Side) (sibling : Target) → Reads a e up node freed side far sibling → freed ≡ place_index (element_at a e).leaf_p
-freed_at a e up node freed side far sibling r = r.freed_is ∙ ap (λ x. place_index x.leaf_p) r.up_is
+freed_at : (a : Parts) (e : ℕ) (up : Element) (freed : ℕ) (sibling : Target) (above : Place) → Reads a e up freed sibling above → freed ≡ place_index (element_at a e).leaf_p
+freed_at a e up freed sibling above r = r.freed_is ∙ ap (λ x. place_index x.leaf_p) r.up_is
 
-node_at : (a : Parts) (e : ℕ) (up node : Element) (freed : ℕ) (side far : Side) (sibling : Target) → Reads a e up node freed side far sibling → node ≡ element_at a (place_index (element_at a e).leaf_p)
-node_at a e up node freed side far sibling r = r.node_is ∙ ap (element_at a) (freed_at a e up node freed side far sibling r)
+sibling_at : (a : Parts) (e : ℕ) (up : Element) (freed : ℕ) (sibling : Target) (above : Place) → Reads a e up freed sibling above → sibling ≡ beside a (element_at a e).leaf_p
+sibling_at a e up freed sibling above r = r.sibling_is ∙ ap (λ x. beside a x.leaf_p) r.up_is
 
-sibling_at : (a : Parts) (e : ℕ) (up node : Element) (freed : ℕ) (side far : Side) (sibling : Target) → Reads a e up node freed side far sibling → sibling ≡ beside a (element_at a e).leaf_p
-sibling_at a e up node freed side far sibling r =
-    let s : far ≡ opposite (place_side (element_at a e).leaf_p) = r.far_is ∙ ap opposite (r.side_is ∙ ap (λ x. place_side x.leaf_p) r.up_is) in
-    r.sibling_is ∙ (ap (λ x. child x node) s ∙ ap (child (opposite (place_side (element_at a e).leaf_p))) (node_at a e up node freed side far sibling r))
+above_at : (a : Parts) (e : ℕ) (up : Element) (freed : ℕ) (sibling : Target) (above : Place) → Reads a e up freed sibling above → above ≡ (element_at a (place_index (element_at a e).leaf_p)).node_p
+above_at a e up freed sibling above r = r.above_is ∙ ap (λ x. (element_at a (place_index x.leaf_p)).node_p) r.up_is
 
-pub reads : {a : Parts} {e : ℕ} {up node : Element} {freed : ℕ} {side far : Side} {sibling : Target} → HasShape a → IsIn a e → place_index (element_at a e).leaf_p < length a.elements → up ≡ element_at a e → freed ≡ place_index up.leaf_p → node ≡ element_at a freed → side ≡ place_side up.leaf_p → far ≡ opposite side → sibling ≡ child far node → Reads a e up node freed side far sibling
-reads s i b u f n d o g = record { shape = s; in_tree = i; below_node = b; up_is = u; freed_is = f; node_is = n; side_is = d; far_is = o; sibling_is = g }
+pub reads : {a : Parts} {e : ℕ} {up : Element} {freed : ℕ} {sibling : Target} {above : Place} → HasShape a → IsIn a e → place_index (element_at a e).leaf_p < length a.elements → up ≡ element_at a e → freed ≡ place_index up.leaf_p → sibling ≡ beside a up.leaf_p → above ≡ (element_at a (place_index up.leaf_p)).node_p → Reads a e up freed sibling above
+reads s i b u f g o = record { shape = s; in_tree = i; below_node = b; up_is = u; freed_is = f; sibling_is = g; above_is = o }
 
 -- that the writes may be done
-pub record MayWrite (a : Parts) (node : Element) (sibling : Target) : Type 0 where
+pub record MayWrite (a : Parts) (sibling : Target) (above : Place) : Type 0 where
   pub some : sibling ≡ targets.Nothing → ⊥
   pub exists : index_of sibling < length a.elements
-  pub above : node.node_p ≡ places.Nowhere → ⊥
-  pub above_exists : place_index node.node_p < length a.elements + length a.links
+  pub above_some : above ≡ places.Nowhere → ⊥
+  pub above_exists : place_index above < length a.elements + length a.links
+  pub above_left : length a.elements ≤ place_index above → place_side above ≡ sides.Left
 
-pub may_write : {a : Parts} {e : ℕ} {up node : Element} {freed : ℕ} {side far : Side} {sibling : Target} → Reads a e up node freed side far sibling → MayWrite a node sibling
-may_write {a = a} {e = e} {up = up} {node = node} {freed = freed} {side = side} {far = far} {sibling = sibling} r =
+pub may_write : {a : Parts} {e : ℕ} {up : Element} {freed : ℕ} {sibling : Target} {above : Place} → Reads a e up freed sibling above → MayWrite a sibling above
+may_write {a = a} {e = e} {up = up} {freed = freed} {sibling = sibling} {above = above} r =
     let m : MayUnlink a e (element_at a e).leaf_p = may_unlink a e r.shape r.in_tree r.below_node in
-    let s : sibling ≡ beside a (element_at a e).leaf_p = sibling_at a e up node freed side far sibling r in
-    let n : node ≡ element_at a (place_index (element_at a e).leaf_p) = node_at a e up node freed side far sibling r in
+    let s : sibling ≡ beside a (element_at a e).leaf_p = sibling_at a e up freed sibling above r in
+    let n : above ≡ (element_at a (place_index (element_at a e).leaf_p)).node_p = above_at a e up freed sibling above r in
     record {
       some = λ h. m.some (sym s ∙ h);
       exists = subst (λ x. index_of x < length a.elements) (sym s) m.exists;
-      above = λ h. m.above (sym (ap (λ x. x.node_p) n) ∙ h);
-      above_exists = subst (λ x. place_index x.node_p < length a.elements + length a.links) (sym n) m.above_exists;
+      above_some = λ h. m.above (sym n ∙ h);
+      above_exists = subst (λ x. place_index x < length a.elements + length a.links) (sym n) m.above_exists;
+      above_left = subst (λ x. length a.elements ≤ place_index x → place_side x ≡ sides.Left) (sym n) m.above_left;
     }
 
 -- what is written
@@ -96,6 +94,10 @@ place_stays {a = a} {c = c} place s f =
     let y : length c.links ≡ length a.links = s.links in
     omega arith
 
+-- on its side of a root
+pub place_left : {a c : Parts} (place : Place) → SameCounts a c → (length a.elements ≤ place_index place → place_side place ≡ sides.Left) → length c.elements ≤ place_index place → place_side place ≡ sides.Left
+place_left {a = a} {c = c} place s l f = l (subst (λ n. n ≤ place_index place) s.elements f)
+
 written : (a b c d z : Parts) (e freed : ℕ) (leaf top sibling : Target) (none above : Place) → Writes a b c d z e freed leaf top sibling none above → z ≡ cut a e freed sibling above
 written a b c d z e freed leaf top sibling none above w =
     let x : b ≡ hung a (targets.Leaf e) places.Nowhere = w.first ∙ (ap (λ t. hung a t none) w.leaf_is ∙ ap (hung a (targets.Leaf e)) w.none_is) in
@@ -103,11 +105,11 @@ written a b c d z e freed leaf top sibling none above w =
     let v : d ≡ raised a e freed sibling above = w.third ∙ ap (λ t. hung t sibling above) y in
     w.fourth ∙ ap (λ t. linked t above sibling) v
 
-pub read_unlinks : {a b c d z : Parts} {e : ℕ} {up node : Element} {freed : ℕ} {side far : Side} {sibling leaf top : Target} {none : Place} → Reads a e up node freed side far sibling → Writes a b c d z e freed leaf top sibling none node.node_p → Unlinks a z e freed
-read_unlinks {a = a} {b = b} {c = c} {d = d} {z = z} {e = e} {up = up} {node = node} {freed = freed} {side = side} {far = far} {sibling = sibling} {leaf = leaf} {top = top} {none = none} r w =
-    let f : freed ≡ place_index (element_at a e).leaf_p = freed_at a e up node freed side far sibling r in
-    let s : sibling ≡ beside a (element_at a e).leaf_p = sibling_at a e up node freed side far sibling r in
-    let n : node ≡ element_at a (place_index (element_at a e).leaf_p) = node_at a e up node freed side far sibling r in
-    let is : z ≡ unlinked a e = written a b c d z e freed leaf top sibling none node.node_p w ∙ (ap (λ x. cut a e x sibling node.node_p) f ∙ (ap (λ x. cut a e (place_index (element_at a e).leaf_p) x node.node_p) s ∙ ap (λ x. cut a e (place_index (element_at a e).leaf_p) (beside a (element_at a e).leaf_p) x.node_p) n)) in
+pub read_unlinks : {a b c d z : Parts} {e : ℕ} {up : Element} {freed : ℕ} {sibling leaf top : Target} {none above : Place} → Reads a e up freed sibling above → Writes a b c d z e freed leaf top sibling none above → Unlinks a z e freed
+read_unlinks {a = a} {b = b} {c = c} {d = d} {z = z} {e = e} {up = up} {freed = freed} {sibling = sibling} {leaf = leaf} {top = top} {none = none} {above = above} r w =
+    let f : freed ≡ place_index (element_at a e).leaf_p = freed_at a e up freed sibling above r in
+    let s : sibling ≡ beside a (element_at a e).leaf_p = sibling_at a e up freed sibling above r in
+    let n : above ≡ (element_at a (place_index (element_at a e).leaf_p)).node_p = above_at a e up freed sibling above r in
+    let is : z ≡ unlinked a e = written a b c d z e freed leaf top sibling none above w ∙ (ap (λ x. cut a e x sibling above) f ∙ (ap (λ x. cut a e (place_index (element_at a e).leaf_p) x above) s ∙ ap (cut a e (place_index (element_at a e).leaf_p) (beside a (element_at a e).leaf_p)) n)) in
     let x : Unlinks a (unlinked a e) e (place_index (element_at a e).leaf_p) = unlinks a e r.below_node in
     subst (λ y. Unlinks a y e freed) (sym is) (subst (Unlinks a (unlinked a e) e) (sym f) x)

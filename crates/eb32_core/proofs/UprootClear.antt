@@ -9,7 +9,7 @@ use Rattle.eb_arena.specs.declared.links.Target.{Target}
 use Rattle.eb_arena.specs.declared.links.Target.TheVariants as targets
 use Rattle.eb_arena.specs.declared.links.Place.TheVariants as places
 use Rattle.eb_arena.specs.declared.element.Element.{Element}
-use Rattle.eb_arena.specs.Links.{index_of, place_index}
+use Rattle.eb_arena.specs.Links.{index_of, place_index, place_side}
 use Rattle.eb_arena.specs.Parts.{Parts, element_at, link_at, with_link, hung, linked}
 use Rattle.eb_arena.specs.Shape.{Tree, tip, fork, items_of, Stands, HasLeaf, HasNode, IsRoot, root_place, Shape, HasShape, InSome}
 use Rattle.eb_arena.specs.Way.{Step, from_left, from_right, plug, Leads}
@@ -22,6 +22,7 @@ use Rattle.eb_dups.proofs.Distinct.{NoShare, roots_apart}
 use Rattle.eb_dups.proofs.Moves.{hung_leaf, hung_node, hung_count}
 use Rattle.eb_dups.proofs.Regrown.{tree_at, tree_other}
 use Rattle.eb_dups.proofs.Ending.{place_bound}
+use Rattle.eb_dups.proofs.LeftOfRoot.{left_of_root}
 use Rattle.eb32_core.specs.Removal.{Uprooted, Uproots}
 use Rattle.eb32_core.proofs.ReplaceHeld.{on_root}
 
@@ -151,6 +152,20 @@ place_exists a b e n t h i hn hb =
     let l : length b.links ≡ length a.links = ap (λ m. length m.links) hb ∙ ap length (hung_count a t places.Nowhere).1 in
     let f : place_index n.leaf_p < length a.elements + length a.links = subst (λ m. place_index m.leaf_p < length a.elements + length a.links) (sym hn) (leaf_bound a e h i) in
     omega (arith, c, l, f)
+
+-- at a root it is the left side
+left_at : (a : Parts) (q e : ℕ) (o : Option Tree) → IsRoot a q o → IsSomeAnd o (HasLeaf e) → length a.elements ≤ place_index (element_at a e).leaf_p → place_side (element_at a e).leaf_p ≡ sides.Left
+left_at a q e None r s f = absurd s
+left_at a q e (Some t) r s f =
+    let w : LeafWay a q t e = leaf_way a q t [] _ _ e r.0 refl s in
+    left_of_root a q (element_at a e).leaf_p w.way w.leads f
+
+pub place_left : (a b : Parts) (e : ℕ) (n : Element) (t : Target) → HasShape a → IsIn a e → n ≡ element_at a e → b ≡ hung a t places.Nowhere → length b.elements ≤ place_index n.leaf_p → place_side n.leaf_p ≡ sides.Left
+place_left a b e n t h i hn hb f =
+    let s : InSome a h.0 (HasLeaf e) = h.1.leaves e i.0 i.1 in
+    let c : length b.elements ≡ length a.elements = ap (λ m. length m.elements) hb ∙ (hung_count a t places.Nowhere).0 in
+    let g : length a.elements ≤ place_index (element_at a e).leaf_p = subst (λ m. length a.elements ≤ place_index m.leaf_p) hn (subst (λ m. m ≤ place_index n.leaf_p) c f) in
+    ap (λ m. place_side m.leaf_p) hn ∙ left_at a s.0 e (h.0 s.0) (h.1.roots s.0 s.1.0) s.1.1 g
 
 -- the writes, step by step
 pub cleared_by : (a b z : Parts) (e : ℕ) (n : Element) (t : Target) → n ≡ element_at a e → t ≡ targets.Leaf e → b ≡ hung a t places.Nowhere → z ≡ linked b n.leaf_p targets.Nothing → z ≡ cleared a e

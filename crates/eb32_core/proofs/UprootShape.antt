@@ -2,9 +2,7 @@
 use Rattle.std.proofs.Common.{◌≡◌, ℕ, inl, inr, Bool, true, false, cond, [], refl, sym, ◌∙◌, subst}
 use Rattle.std.specs.Prelude.{◌==◌, Option, Some, IsSomeAnd}
 use Rattle.std.proofs.lemmas.Bool.{cases_eq}
-use Rattle.eb_arena.specs.declared.links.Place.{Place}
 use Rattle.eb_arena.specs.declared.links.Place.TheVariants as places
-use Rattle.eb_arena.specs.Links.{is_nowhere}
 use Rattle.eb_arena.specs.Parts.{Parts, element_at, link_at}
 use Rattle.eb_arena.specs.Shape.{Tree, Stands, Split, HasLeaf, HasNode, IsRoot, root_place, Shape, InSome}
 use Rattle.eb_arena.proofs.Unique.{NodeWay, node_way, leads_somewhere}

@@ -76,9 +76,7 @@ impl Forest {
         ensures inserts { seen_of self.new ≡ inserted_into root entry key (seen_of self.old) }
         ensures few { ChangesFew 3 entry self.old.parts self.new.parts }
     {
-        let mut element = self.arena.element(entry);
-        element.key = key;
-        self.arena.set(entry, element);
+        self.arena.set_key(entry, key);
         plant(&mut self.arena, root, entry, steps);
         self.made[root as usize] += 1;
     }

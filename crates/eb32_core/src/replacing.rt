@@ -27,7 +27,7 @@ pub(crate) fn replace<L: Ledger>(arena: &mut Arena, entry: u32, heir: u32, steps
     let own = arena.element(heir);
     element.leaf_p = own.leaf_p;
     element.key = own.key;
-    arena.set(heir, element);
+    arena.set_same_key(heir, element);
     arena.put_link(node.node_p, Link::node(heir));
     for _ in 0..4u32 {
         steps.tick();

@@ -18,7 +18,7 @@ pub(crate) fn root_above(arena: &Arena, entry: u32) -> u32
     let entries = arena.entries();
     let mut place = arena.element(entry).leaf_p;
     while place.index() < entries {
-        place = arena.element(place.index()).node_p;
+        place = arena.above(place);
     }
     place.index() - entries
 }

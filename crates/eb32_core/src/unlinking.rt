@@ -26,9 +26,8 @@ pub(crate) fn unlink<L: Ledger>(arena: &mut Arena, entry: u32, steps: &mut Steps
 {
     let up = arena.element(entry).leaf_p;
     let freed = up.index();
-    let node = arena.element(freed);
-    let sibling = node.child(up.side().opposite());
-    let above = node.node_p;
+    let sibling = arena.beside(up);
+    let above = arena.above(up);
     arena.hang(Link::leaf(entry), Up::NONE);
     arena.hang(Link::node(freed), Up::NONE);
     arena.hang(sibling, above);

@@ -8,7 +8,6 @@ use Rattle.eb_arena.specs.declared.links.Target.{Target}
 use Rattle.eb_arena.specs.declared.links.Target.TheVariants as targets
 use Rattle.eb_arena.specs.declared.links.Place.{Place}
 use Rattle.eb_arena.specs.declared.links.Place.TheVariants as places
-use Rattle.eb_arena.specs.declared.element.Element.{Element}
 use Rattle.eb_arena.specs.Links.{index_of}
 use Rattle.eb_arena.specs.Parts.{Parts, element_at, child}
 use Rattle.eb_arena.specs.Shape.{Tree, tip, fork, items, Stands, Split, list_below}
@@ -111,14 +110,14 @@ pub record EndTurn (a : Parts) (side : Side) (part next : Target) : Type 0 where
 pub node_tree : (a : Parts) (i : ℕ) (part : Target) → targets.Node i ≡ part → IsTree a part → IsTree a (targets.Node i)
 node_tree a i part e h = subst (IsTree a) (sym e) h
 
-pub end_turn : (a : Parts) (side : Side) (i : ℕ) (part next : Target) (e : Element) → IsTree a part → targets.Node i ≡ part → e ≡ element_at a i → next ≡ child side e → EndTurn a side part next
-end_turn a side i part next e h is el n =
-    let s : EndStep a side i = end_step a side i (node_tree a i part is h) in
-    let x : child side (element_at a i) ≡ next = sym (n ∙ ap (child side) el) in
+pub end_turn : (a : Parts) (side : Side) (part next : Target) → IsTree a part → targets.Node (index_of part) ≡ part → next ≡ child side (element_at a (index_of part)) → EndTurn a side part next
+end_turn a side part next h is n =
+    let s : EndStep a side (index_of part) = end_step a side (index_of part) (node_tree a (index_of part) part is h) in
+    let x : child side (element_at a (index_of part)) ≡ next = sym n in
     record {
       is_tree = subst (IsTree a) x s.is_tree;
       same = ap (λ t. end_entry side (list_below a t)) (sym x) ∙ (s.same ∙ ap (λ t. end_entry side (list_below a t)) is);
-      falls = subst (λ t. target_rank a t < target_rank a part) x (subst (λ t. target_rank a (child side (element_at a i)) < target_rank a t) is s.falls);
+      falls = subst (λ t. target_rank a t < target_rank a part) x (subst (λ t. target_rank a (child side (element_at a (index_of part))) < target_rank a t) is s.falls);
     }
 
 -- what is found at the leaf that ends the way down

@@ -4,6 +4,7 @@ use denote.Enum.Bare.{sameb}
 use Rattle.eb_arena.specs.contracts.links.Side.{the_type}
 use Rattle.eb_arena.specs.declared.links.Side.{Side}
 use Rattle.eb_arena.specs.declared.links.Side.TheVariants as sides
+use Rattle.eb_arena.specs.Links.{opposite}
 
 not_true_false : true ≡ false → ⊥
 not_true_false h = cc
@@ -23,3 +24,10 @@ eq_differ sides.Right sides.Left u b h g e f = let x : sides.Right ≡ sides.Lef
 pub not_left : (s : Side) (b : Bool) → b ≡ false → b ≡ sameb the_type s sides.Left → s ≡ sides.Right
 not_left sides.Left b h g = let x : true ≡ false = sym g ∙ h in absurd (not_true_false x)
 not_left sides.Right b h g = refl
+
+-- of two sides, the one that is not the first is its opposite
+pub other_is : (s t : Side) → (s ≡ t → ⊥) → opposite s ≡ t
+other_is sides.Left sides.Left n = absurd (n refl)
+other_is sides.Left sides.Right n = refl
+other_is sides.Right sides.Left n = refl
+other_is sides.Right sides.Right n = absurd (n refl)

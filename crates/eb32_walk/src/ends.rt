@@ -16,7 +16,7 @@ pub(crate) fn end_below(arena: &Arena, link: Link, side: Side) -> u32
 {
     let mut part = link;
     while !part.is_leaf() {
-        part = arena.element(part.index()).child(side);
+        part = arena.child(part, side);
     }
     part.index()
 }
@@ -33,11 +33,10 @@ pub(crate) fn neighbour(arena: &Arena, up: Up, side: Side) -> Option<u32>
         if side == Side::Left && place.index() >= arena.entries() {
             return None;
         }
-        place = arena.element(place.index()).node_p;
+        place = arena.above(place);
     }
     if place.index() >= arena.entries() {
         return None;
     }
-    let other = arena.element(place.index()).child(side);
-    Some(end_below(arena, other, side.opposite()))
+    Some(end_below(arena, arena.beside(place), side.opposite()))
 }

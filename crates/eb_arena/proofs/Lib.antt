@@ -6,4 +6,4 @@ pub mod Unique
 pub mod Frame
 pub mod Rising
 pub mod LeafOrNode
-pub mod Columns
+pub mod Halves

@@ -1,4 +1,4 @@
-pub mod Columns
+pub mod Halves
 pub mod Laws
 pub mod LinkNumbers
 pub mod Links

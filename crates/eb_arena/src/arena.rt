@@ -9,6 +9,23 @@ use crate::links::{Link, Up};
 use std::alloc::{AllocError, Global};
 use std::marker::Model;
 
+/// Half of an element. The half with the number 2i has what hangs at the left of node i and where
+/// leaf i hangs, the half with the number 2i + 1 what hangs at the right of node i and where node i
+/// hangs. So a link's number is the number of a half, up as well as down.
+#[derive(Clone, Copy, Debug)]
+pub(crate) struct Half {
+    pub(crate) down: Link,
+    pub(crate) up: Up,
+}
+
+impl Half {
+    /// A half of an element whose entry is in no tree and whose node is unused.
+    const UNUSED: Half = Half {
+        down: Link::NONE,
+        up: Up::NONE,
+    };
+}
+
 /// The key of a leaf and the bit of a node.
 #[derive(Clone, Copy, Debug)]
 struct Label {
@@ -20,15 +37,13 @@ struct Label {
 /// hangs on the roots.
 #[derive(Debug, Drop)]
 pub struct Arena {
-    /// What hangs at each side of a node, by the place's number: 2i at the left of node i, 2i + 1
-    /// at its right.
-    pub(crate) downs: Vec<Link>,
-    /// Where each part hangs, by the part's number: 2i for leaf i, 2i + 1 for node i.
-    pub(crate) ups: Vec<Up>,
+    /// The halves of the elements and, behind them, of the roots. A root is stored as a node of which
+    /// only the left side is used.
+    pub(crate) halves: Vec<Half>,
     /// The key of each leaf and the bit of each node.
     labels: Vec<Label>,
-    /// What hangs on each root.
-    links: Vec<Link>,
+    /// The number of roots.
+    roots: u32,
 }
 
 impl Model for Arena {
@@ -36,11 +51,11 @@ impl Model for Arena {
 
     ghost Value = { Parts };
 
-    ghost use Rattle.eb_arena.specs.Columns.{parts_of, Fits};
+    ghost use Rattle.eb_arena.specs.Halves.{parts_of, Fits};
 
-    ghost view = { λ a. parts_of a.downs.items a.ups.items a.labels.items a.links.items };
+    ghost view = { λ a. parts_of a.halves.items a.labels.items a.roots };
 
-    ghost invariant = { λ a. Fits a.downs.items a.ups.items a.labels.items a.links.items };
+    ghost invariant = { λ a. Fits a.halves.items a.labels.items a.roots };
 }
 
 impl Arena {
@@ -50,16 +65,13 @@ impl Arena {
         requires { roots + entries < 2147483647 }
         ensures { IfOk result (λ a. a ≡ record { elements = replicate entries unused; links = replicate roots targets.Nothing }) }
     {
-        let entries = entries as usize;
-        let downs = vec![in alloc; Link::NONE; 2 * entries]?;
-        let ups = vec![in alloc; Up::NONE; 2 * entries]?;
-        let labels = vec![in alloc; Label { key: 0, bit: 0 }; entries]?;
-        let links = vec![in alloc; Link::NONE; roots as usize]?;
+        let nodes = (roots + entries) as usize;
+        let halves = vec![in alloc; Half::UNUSED; 2 * nodes]?;
+        let labels = vec![in alloc; Label { key: 0, bit: 0 }; entries as usize]?;
         Ok(Arena {
-            downs,
-            ups,
+            halves,
             labels,
-            links,
+            roots,
         })
     }
 
@@ -76,7 +88,7 @@ impl Arena {
         ensures count { result ≡ length self.now.links }
         ensures room { length self.now.links + length self.now.elements < 2147483647 }
     {
-        self.links.len() as u32
+        self.roots
     }
 
     /// The element with this index.
@@ -87,10 +99,10 @@ impl Arena {
         let entry = index as usize;
         let label = self.labels[entry];
         Element {
-            left: self.downs[2 * entry],
-            right: self.downs[2 * entry + 1],
-            node_p: self.ups[2 * entry + 1],
-            leaf_p: self.ups[2 * entry],
+            left: self.halves[2 * entry].down,
+            right: self.halves[2 * entry + 1].down,
+            node_p: self.halves[2 * entry + 1].up,
+            leaf_p: self.halves[2 * entry].up,
             key: label.key,
             bit: label.bit,
         }
@@ -101,15 +113,35 @@ impl Arena {
         requires { index < length self.old.elements }
         ensures { self.new ≡ with_element self.old index element }
     {
+        self.set_key(index, element.key);
+        self.set_same_key(index, element);
+    }
+
+    /// Puts an element of the same key in the place of the one with this index. The key is not
+    /// written.
+    pub fn set_same_key(&mut self, index: u32, element: Element)
+        requires exists { index < length self.old.elements }
+        requires same { element.key ≡ (element_at self.old index).key }
+        ensures { self.new ≡ with_element self.old index element }
+    {
         let entry = index as usize;
-        self.downs[2 * entry] = element.left;
-        self.downs[2 * entry + 1] = element.right;
-        self.ups[2 * entry] = element.leaf_p;
-        self.ups[2 * entry + 1] = element.node_p;
-        self.labels[entry] = Label {
-            key: element.key,
-            bit: element.bit,
+        self.halves[2 * entry] = Half {
+            down: element.left,
+            up: element.leaf_p,
         };
+        self.halves[2 * entry + 1] = Half {
+            down: element.right,
+            up: element.node_p,
+        };
+        self.labels[entry].bit = element.bit;
+    }
+
+    /// Writes the key of an entry, and nothing else.
+    pub fn set_key(&mut self, entry: u32, key: u32)
+        requires { entry < length self.old.elements }
+        ensures { self.new ≡ with_element self.old entry (record (element_at self.old entry) { key = key }) }
+    {
+        self.labels[entry as usize].key = key;
     }
 
     /// What hangs on a root.
@@ -117,7 +149,8 @@ impl Arena {
         requires { root < length self.now.links }
         ensures { result ≡ link_at self.now root }
     {
-        self.links[root as usize]
+        let node = self.labels.len() + root as usize;
+        self.halves[2 * node].down
     }
 
     /// Hangs a part, or nothing, on a root.
@@ -125,6 +158,7 @@ impl Arena {
         requires { root < length self.old.links }
         ensures { self.new ≡ with_link self.old root link }
     {
-        self.links[root as usize] = link;
+        let node = self.labels.len() + root as usize;
+        self.halves[2 * node].down = link;
     }
 }

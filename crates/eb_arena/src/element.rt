@@ -42,6 +42,8 @@ impl Element {
     }
 
     /// What hangs at a side of the node.
+    // Inlined at once, so that the compiler reads both sides before the side is known.
+    #[inline(always)]
     pub fn child(&self, side: Side) -> Link
         ensures { result ≡ child side self.now }
     {

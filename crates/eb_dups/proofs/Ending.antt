@@ -5,7 +5,7 @@ use Rattle.eb_arena.specs.declared.links.Side.TheVariants as sides
 use Rattle.eb_arena.specs.declared.links.Target.{Target}
 use Rattle.eb_arena.specs.declared.links.Place.{Place}
 use Rattle.eb_arena.specs.declared.links.Place.TheVariants as places
-use Rattle.eb_arena.specs.Links.{place_index}
+use Rattle.eb_arena.specs.Links.{place_index, place_side}
 use Rattle.eb_arena.specs.Parts.{Parts, element_at, up_of}
 use Rattle.eb_arena.specs.Shape.{Tree, tip, fork, Keys, Stands, Split, IsRoot, Shape}
 use Rattle.eb_arena.specs.Way.{Step, from_left, from_right, plug, Leads}
@@ -15,6 +15,7 @@ use Rattle.eb_arena.proofs.Ways.{part_split}
 use Rattle.eb_arena.proofs.Unique.{one_way, leads_somewhere}
 use Rattle.eb_dups.specs.Grown.{attached, with_tree}
 use Rattle.eb_dups.specs.Spine.{IsTwins, spine_value, depth, depth_of, IsWhole, IsSpine, HasGap, KeyHead, TwinAdded, IsTwinTree, IsSlot}
+use Rattle.eb_dups.proofs.LeftOfRoot.{left_of_root}
 use Rattle.eb_dups.proofs.Regrown.{Growth, Outcome, outcome, grown_shape}
 use Rattle.eb_dups.proofs.Descent.{depth_of_is}
 use Rattle.eb_dups.proofs.Added.{plug-append, HasRoom, regrow_split, spine_up, items_up, keys_up, keys_part, twins_up, spine_le, below_self, pow_small}
@@ -73,6 +74,13 @@ slot_place a head slot key h s =
     let p : h.place ≡ s.place = sym (up_of_is a head h.place h.tree h.stands) ∙ up_of_is a head s.place s.tree s.stands in
     let l : Leads a h.root s.part_place (s.steps ++ h.way) = s.leads h.root h.way (subst (λ o. Leads a h.root o h.way) p h.leads) in
     subst (λ o. place_index o < length a.elements + length a.links) (sym (up_of_is a slot s.part_place s.part s.part_stands)) (place_bound a h.root s.part_place (s.steps ++ h.way) l h.exists)
+
+pub slot_left : (a : Parts) (head slot : Target) (key : ℕ) → KeyHead a head key → IsSlot a head slot → length a.elements ≤ place_index (up_of a slot) → place_side (up_of a slot) ≡ sides.Left
+slot_left a head slot key h s f =
+    let p : h.place ≡ s.place = sym (up_of_is a head h.place h.tree h.stands) ∙ up_of_is a head s.place s.tree s.stands in
+    let l : Leads a h.root s.part_place (s.steps ++ h.way) = s.leads h.root h.way (subst (λ o. Leads a h.root o h.way) p h.leads) in
+    let u : up_of a slot ≡ s.part_place = up_of_is a slot s.part_place s.part s.part_stands in
+    left_of_root a h.root (up_of a slot) (s.steps ++ h.way) (subst (λ o. Leads a h.root o (s.steps ++ h.way)) (sym u) l) f
 
 added_at : (a : Parts) (slot : Target) (e : ℕ) (trees : ℕ → Option Tree) (root : ℕ) (way d : List Step) (part_place : Place) (part : Tree) → Growth a trees root (d ++ way) slot part_place part e → Split (plug (d ++ way) part) → IsSpine d → HasGap d part → IsWhole way → IsTwins part → Keys (λ x. x ≡ (element_at a e).key) (plug d part) → spine_value part + 1 ≡ 2 ^ depth part → depth part < 63 → TwinAdded a (attached a slot part_place e sides.Right (negsuc (depth part))) trees root way (plug d part) (element_at a e).key e
 added_at a slot e trees root way d part_place part g sp sn gap wh tw ks full small =

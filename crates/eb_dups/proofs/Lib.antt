@@ -1,3 +1,4 @@
+pub mod LeftOfRoot
 pub mod Distinct
 pub mod Moves
 pub mod Growing

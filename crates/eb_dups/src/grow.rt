@@ -1,9 +1,10 @@
 //! One new entry above a part of a tree.
 
-ghost use Rattle.std.specs.Prelude.{◌≡◌, ◌≢◌, ◌+◌, ◌<◌, length};
-ghost use Rattle.eb_arena.specs.Links.{index_of, place_index};
+ghost use Rattle.std.specs.Prelude.{◌≡◌, ◌≢◌, ◌+◌, ◌<◌, ◌≤◌, length};
+ghost use Rattle.eb_arena.specs.Links.{index_of, place_index, place_side};
 ghost use Rattle.eb_arena.specs.Parts.{up_of};
 ghost use Rattle.eb_dups.specs.Grown.{attached};
+ghost use Rattle.eb_arena.specs.declared.links.Side.TheVariants as sides;
 ghost use Rattle.eb_arena.specs.declared.links.Target.TheVariants as targets;
 ghost use Rattle.eb_arena.specs.declared.links.Place.TheVariants as places;
 
@@ -15,6 +16,7 @@ pub fn attach(arena: &mut Arena, part: Link, entry: u32, side: Side, bit: i16)
     requires part_exists { index_of part < length arena.old.elements }
     requires hangs { up_of arena.old part ≢ places.Nowhere }
     requires place_exists { place_index (up_of arena.old part) < length arena.old.elements + length arena.old.links }
+    requires left { length arena.old.elements ≤ place_index (up_of arena.old part) → place_side (up_of arena.old part) ≡ sides.Left }
     requires fits { length arena.old.links + length arena.old.elements < 2147483647 }
     requires entry_exists { entry < length arena.old.elements }
     ensures { arena.new ≡ attached arena.old part (up_of arena.old part) entry side bit }
@@ -23,11 +25,15 @@ pub fn attach(arena: &mut Arena, part: Link, entry: u32, side: Side, bit: i16)
     let key = arena.element(entry).key;
     arena.hang(part, Up::new(entry, side.opposite()));
     let leaf = Link::leaf(entry);
-    let (left, right) = match side {
-        Side::Left => (leaf, part),
-        Side::Right => (part, leaf),
+    let left = match side {
+        Side::Left => leaf,
+        Side::Right => part,
     };
-    arena.set(
+    let right = match side {
+        Side::Left => part,
+        Side::Right => leaf,
+    };
+    arena.set_same_key(
         entry,
         Element {
             left,

@@ -44,7 +44,7 @@ fn slot_below<L: Ledger>(arena: &Arena, head: Link, steps: &mut Steps<L>) -> Lin
     let mut depth = depth_at(arena, head);
     while !here.is_leaf() {
         steps.tick();
-        let down = arena.element(here.index()).right;
+        let down = arena.child(here, Side::Right);
         let below = depth_at(arena, down);
         if below + 1 < depth {
             slot = down;

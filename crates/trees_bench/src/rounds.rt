@@ -1,6 +1,7 @@
 //! Rounds of work, and the best time of each kind of call.
 
-ghost use Rattle.std.specs.Prelude.{◌≡◌, ◌<◌};
+ghost use Rattle.std.specs.Prelude.{◌≡◌, ◌+◌, ◌*◌, ◌^◌, ◌<◌, length, slice_index, OnOk};
+ghost use Rattle.trees_bench.specs.Filled.{HasOneRoot, AllFree, Grows};
 
 use crate::work::{Draws, churn, clear, fill, look_up, walk};
 use eb32_core::Forest;
@@ -49,7 +50,13 @@ fn round<L: Ledger>(
     forest: &mut Forest,
     mask: u32,
     steps: &mut Steps<L>,
-) -> io::Result<Times> {
+) -> io::Result<Times>
+    requires root { HasOneRoot forest.old }
+    requires free { AllFree forest.old }
+    requires room { slice_index forest.old.made 0 + 2 * length forest.old.parts.elements < 2 ^ 63 }
+    ensures free { OnOk result (AllFree forest.new) }
+    ensures grows { OnOk result (Grows (2 * length forest.old.parts.elements) forest.old forest.new) }
+{
     let calls = forest.arena().entries();
     let mut draws = Draws::new();
     let start = Instant::now(rt)?;

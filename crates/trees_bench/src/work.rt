@@ -1,8 +1,9 @@
 //! The work that is timed, over root 0 of a forest.
 
-ghost use Rattle.std.specs.Prelude.{◌≡◌, ◌<◌, length, IfSome};
+ghost use Rattle.std.specs.Prelude.{◌≡◌, ◌+◌, ◌^◌, ◌<◌, length, slice_index, IfSome};
 ghost use Rattle.eb_arena.specs.Shape.{HasShape};
 ghost use Rattle.eb32_walk.specs.Ends.{IsIn};
+ghost use Rattle.trees_bench.specs.Filled.{HasOneRoot, AllFree, AllPlaced, Grows};
 
 use eb_arena::Arena;
 use eb32_core::Forest;
@@ -33,26 +34,11 @@ impl Draws {
     }
 }
 
-/// Inserts an entry that is in no root.
-fn put<L: Ledger>(forest: &mut Forest, entry: u32, key: u32, steps: &mut Steps<L>) {
-    let arena = forest.arena();
-    if arena.roots() == 0 || entry >= arena.entries() || forest.is_in(entry).is_some() {
-        return;
-    }
-    if forest.insertions(0) >= 1 << 62 {
-        return;
-    }
-    forest.insert(0, entry, key, steps);
-}
-
-/// Deletes an entry that is in a root.
-fn take<L: Ledger>(forest: &mut Forest, entry: u32, steps: &mut Steps<L>) {
-    let arena = forest.arena();
-    if entry >= arena.entries() || arena.element(entry).leaf_p.is_none() {
-        return;
-    }
-    trees_stand_in_roots(forest, entry);
-    forest.delete(entry, steps);
+/// Each root of a forest has its count of insertions. This does nothing: its contract is the law.
+fn roots_are_counted(forest: &Forest)
+    ensures { length forest.now.made ≡ length forest.now.parts.links }
+{
+    let _arena = forest.arena();
 }
 
 /// Inserts all entries under drawn keys.
@@ -61,20 +47,26 @@ pub(crate) fn fill<L: Ledger>(
     mask: u32,
     draws: &mut Draws,
     steps: &mut Steps<L>,
-) {
+)
+    requires root { HasOneRoot forest.old }
+    requires free { AllFree forest.old }
+    requires room { slice_index forest.old.made 0 + length forest.old.parts.elements < 2 ^ 63 }
+    ensures placed { AllPlaced forest.new }
+    ensures grows { Grows (length forest.old.parts.elements) forest.old forest.new }
+{
     for entry in 0..forest.arena().entries() {
-        put(forest, entry, draws.draw() & mask, steps);
+        let key = draws.draw() & mask;
+        roots_are_counted(forest);
+        forest.insert(0, entry, key, steps);
     }
 }
 
 /// Goes over all entries and adds their keys up.
 pub(crate) fn walk(arena: &Arena) -> u32
-    requires { HasShape arena.now }
+    requires shape { HasShape arena.now }
+    requires root { 0 < length arena.now.links }
 {
     let mut sum = 0u32;
-    if arena.roots() == 0 {
-        return sum;
-    }
     let mut at = first(arena, 0);
     for _ in 0..arena.entries() {
         let Some(entry) = at else {
@@ -88,12 +80,10 @@ pub(crate) fn walk(arena: &Arena) -> u32
 
 /// Looks drawn keys up, once for each entry, and adds up the keys that are found.
 pub(crate) fn look_up(arena: &Arena, mask: u32, draws: &mut Draws) -> u32
-    requires { HasShape arena.now }
+    requires shape { HasShape arena.now }
+    requires root { 0 < length arena.now.links }
 {
     let mut sum = 0u32;
-    if arena.roots() == 0 {
-        return sum;
-    }
     for _ in 0..arena.entries() {
         if let Some(entry) = lookup_ge(arena, 0, draws.draw() & mask) {
             sum = sum.wrapping_add(arena.element(entry).key);
@@ -104,12 +94,10 @@ pub(crate) fn look_up(arena: &Arena, mask: u32, draws: &mut Draws) -> u32
 
 /// The first entry with at least this key, or else the first of all.
 fn at_or_after(arena: &Arena, key: u32) -> Option<u32>
-    requires { HasShape arena.now }
+    requires shape { HasShape arena.now }
+    requires root { 0 < length arena.now.links }
     ensures { IfSome result (IsIn arena.now) }
 {
-    if arena.roots() == 0 {
-        return None;
-    }
     match lookup_ge(arena, 0, key) {
         Some(entry) => Some(entry),
         None => first(arena, 0),
@@ -123,22 +111,35 @@ pub(crate) fn churn<L: Ledger>(
     mask: u32,
     draws: &mut Draws,
     steps: &mut Steps<L>,
-) {
+)
+    requires root { HasOneRoot forest.old }
+    requires placed { AllPlaced forest.old }
+    requires room { slice_index forest.old.made 0 + length forest.old.parts.elements < 2 ^ 63 }
+    ensures placed { AllPlaced forest.new }
+    ensures grows { Grows (length forest.old.parts.elements) forest.old forest.new }
+{
     let mut point = 0u32;
     for _ in 0..forest.arena().entries() {
         let Some(entry) = at_or_after(forest.arena(), point & mask) else {
             return;
         };
         point = forest.arena().element(entry).key;
-        take(forest, entry, steps);
+        trees_stand_in_roots(forest, entry);
+        forest.delete(entry, steps);
         let later = point.wrapping_add(draws.draw() & 0xffff) & mask;
-        put(forest, entry, later, steps);
+        roots_are_counted(forest);
+        forest.insert(0, entry, later, steps);
     }
 }
 
 /// Deletes all entries in the order of their numbers.
-pub(crate) fn clear<L: Ledger>(forest: &mut Forest, steps: &mut Steps<L>) {
+pub(crate) fn clear<L: Ledger>(forest: &mut Forest, steps: &mut Steps<L>)
+    requires root { HasOneRoot forest.old }
+    requires placed { AllPlaced forest.old }
+    ensures free { AllFree forest.new }
+    ensures grows { Grows 0 forest.old forest.new }
+{
     for entry in 0..forest.arena().entries() {
-        take(forest, entry, steps);
+        forest.delete(entry, steps);
     }
 }

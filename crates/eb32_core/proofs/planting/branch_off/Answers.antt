@@ -7,7 +7,7 @@ use Rattle.eb_dups.proofs.Cost.{few_attached}
 use Rattle.eb32_walk.specs.Search.{own_key}
 use Rattle.eb32_core.specs.Landing.{IsTopBit, SideIs}
 use Rattle.eb32_core.specs.Planted.{Plants}
-use Rattle.eb32_core.proofs.Placing.{land_some, land_fits, land_hangs, land_place}
+use Rattle.eb32_core.proofs.Placing.{land_some, land_fits, land_hangs, land_place, land_left}
 use Rattle.eb32_core.proofs.Plants.{branch_planted}
 use Rattle.eb32_core.proofs.planting.branch_off.Goals as goal
 
@@ -28,6 +28,9 @@ attach-requires-clause-hangs c = land_hangs _ _ _ _ c.requires.lands
 
 pub attach-requires-clause-place_exists : goal.attach-requires-clause-place_exists
 attach-requires-clause-place_exists c = land_place _ _ _ _ c.requires.lands c.requires.root_exists
+
+pub attach-requires-clause-left : goal.attach-requires-clause-left
+attach-requires-clause-left c = land_left _ _ _ _ c.requires.lands
 
 pub returns-clause-plants : goal.returns-clause-plants
 returns-clause-plants c =

@@ -3,7 +3,7 @@ use Rattle.eb_arena.specs.Links.{index_of}
 use Rattle.eb_dups.proofs.Moves.{hung_count}
 use Rattle.eb32_core.specs.Removal.{Replaces}
 use Rattle.eb32_core.proofs.Cost.{replace_few}
-use Rattle.eb32_core.proofs.ReplaceWrites.{moved, replaced, written, written_place, linked_is}
+use Rattle.eb32_core.proofs.ReplaceWrites.{moved, replaced, written, written_place, written_left, linked_is}
 use Rattle.eb32_core.proofs.ReplaceShape.{may_replaceable, replaces}
 use Rattle.eb32_core.proofs.replacing.replace.Goals as goal
 
@@ -24,14 +24,18 @@ hang-requires-2-clause-exists g c =
 
 pub put_link-requires-clause-exists : goal.put_link-requires-clause-exists
 put_link-requires-clause-exists g c =
-    written_place c.args.arena.now _ _ _ c.set.new.self c.args.entry c.args.heir c.element-node.result c.element-own.result _ _ _ (may_replaceable _ _ _ c.requires.may c.requires.used) c.element-node.ensures c.new.ensures c.hang.ensures c.new-2.ensures c.hang-2.ensures c.node.ensures c.hang-3.ensures c.element-own.ensures c.set.ensures
+    written_place c.args.arena.now _ _ _ c.set_same_key.new.self c.args.entry c.args.heir c.element-node.result c.element-own.result _ _ _ (may_replaceable _ _ _ c.requires.may c.requires.used) c.element-node.ensures c.new.ensures c.hang.ensures c.new-2.ensures c.hang-2.ensures c.node.ensures c.hang-3.ensures c.element-own.ensures c.set_same_key.ensures
+
+pub put_link-requires-clause-left : goal.put_link-requires-clause-left
+put_link-requires-clause-left g c =
+    written_left c.args.arena.now c.set_same_key.new.self c.args.entry c.args.heir c.element-node.result (may_replaceable _ _ _ c.requires.may c.requires.used) c.element-node.ensures (written c.args.arena.now _ _ _ c.set_same_key.new.self c.args.entry c.args.heir c.element-node.result c.element-own.result _ _ _ c.element-node.ensures c.new.ensures c.hang.ensures c.new-2.ensures c.hang-2.ensures c.node.ensures c.hang-3.ensures c.element-own.ensures c.set_same_key.ensures)
 
 pub returns-clause-replaces : goal.returns-clause-replaces
 returns-clause-replaces g c =
-    let w : c.set.new.self ≡ moved c.args.arena.now c.args.entry c.args.heir = written c.args.arena.now _ _ _ c.set.new.self c.args.entry c.args.heir c.element-node.result c.element-own.result _ _ _ c.element-node.ensures c.new.ensures c.hang.ensures c.new-2.ensures c.hang-2.ensures c.node.ensures c.hang-3.ensures c.element-own.ensures c.set.ensures in
+    let w : c.set_same_key.new.self ≡ moved c.args.arena.now c.args.entry c.args.heir = written c.args.arena.now _ _ _ c.set_same_key.new.self c.args.entry c.args.heir c.element-node.result c.element-own.result _ _ _ c.element-node.ensures c.new.ensures c.hang.ensures c.new-2.ensures c.hang-2.ensures c.node.ensures c.hang-3.ensures c.element-own.ensures c.set_same_key.ensures in
     let e : c.put_link.new.self ≡ replaced c.args.arena.now c.args.entry c.args.heir = c.put_link.ensures ∙ linked_is c.args.arena.now _ c.args.entry c.args.heir _ _ c.element-node.ensures c.node-2.ensures w in
     subst (λ z. Replaces c.args.arena.now z c.args.entry c.args.heir) (sym e) (replaces c.args.arena.now c.args.entry c.args.heir c.requires.used)
 
 pub returns-clause-few : goal.returns-clause-few
 returns-clause-few g c =
-    replace_few c.args.arena.now _ _ _ c.set.new.self c.put_link.new.self c.args.entry c.args.heir _ _ _ _ _ _ _ _ _ c.hang.ensures c.hang-2.ensures c.node.ensures c.hang-3.ensures c.set.ensures c.put_link.ensures
+    replace_few c.args.arena.now _ _ _ c.set_same_key.new.self c.put_link.new.self c.args.entry c.args.heir _ _ _ _ _ _ _ _ _ c.hang.ensures c.hang-2.ensures c.node.ensures c.hang-3.ensures c.set_same_key.ensures c.put_link.ensures

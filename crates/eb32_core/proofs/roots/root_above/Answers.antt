@@ -2,7 +2,6 @@ use Rattle.std.proofs.Common.{◌≡◌, ◌-◌, ◌<◌, ◌≤◌, length, sy
 use Rattle.std.specs.List.{list_any}
 use Rattle.sched_base.specs.KeyedList.{is_entry}
 use Rattle.eb_arena.specs.Links.{place_index}
-use Rattle.eb_arena.specs.Parts.{element_at}
 use Rattle.eb_arena.specs.Shape.{list_of}
 use Rattle.eb32_walk.proofs.Up.{somewhere, climbs}
 use Rattle.eb32_core.proofs.Upward.{over_start, over_place, over_up, over_root}
@@ -15,18 +14,18 @@ loop-place-init c = over_start _ _ _ c.requires.shape c.requires.in_tree (ap (λ
 pub index-requires : goal.index-requires
 index-requires c = somewhere _ _ (over_place _ _ _ c.loop-place.invariant)
 
-pub index-requires-in-loop-place : goal.index-requires-in-loop-place
-index-requires-in-loop-place c = somewhere _ _ (over_place _ _ _ c.loop-place.invariant)
+pub above-place-requires-clause-some : goal.above-place-requires-clause-some
+above-place-requires-clause-some c = somewhere _ _ (over_place _ _ _ c.loop-place.invariant)
 
 pub loop-place-smaller : goal.loop-place-smaller
 loop-place-smaller c =
     let f : place_index c.loop-place.place < length c.args.arena.now.elements = omega (arith, c.loop-place-test.true, c.index.ensures, c.entries-entries.ensures.count) in
-    climbs _ _ _ (over_place _ _ _ c.loop-place.invariant) f (ap (λ e. e.node_p) (c.element-place-in-loop-place.ensures ∙ ap (element_at c.args.arena.now) c.index-in-loop-place.ensures))
+    climbs _ _ _ (over_place _ _ _ c.loop-place.invariant) f c.above-place.ensures
 
 pub loop-place-preserved : goal.loop-place-preserved
 loop-place-preserved c =
     let f : place_index c.loop-place.place < length c.args.arena.now.elements = omega (arith, c.loop-place-test.true, c.index.ensures, c.entries-entries.ensures.count) in
-    over_up _ _ _ _ c.loop-place.invariant f (ap (λ e. e.node_p) (c.element-place-in-loop-place.ensures ∙ ap (element_at c.args.arena.now) c.index-in-loop-place.ensures))
+    over_up _ _ _ _ c.loop-place.invariant f c.above-place.ensures
 
 -- the place that was reached is that of the root
 root_reached : (c : After-index-2) → c.index-2.result - c.entries-entries.result ≡ c.loop-place.invariant.root

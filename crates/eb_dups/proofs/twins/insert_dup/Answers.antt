@@ -7,7 +7,7 @@ use Rattle.eb_arena.specs.Parts.{up_of}
 use Rattle.eb_dups.specs.Grown.{attached}
 use Rattle.eb_dups.specs.Spine.{depth_of}
 use Rattle.eb_dups.specs.Added.{AddsTwin}
-use Rattle.eb_dups.proofs.Ending.{head_twins, slot_depth, slot_hangs, slot_place, twin_added}
+use Rattle.eb_dups.proofs.Ending.{head_twins, slot_depth, slot_hangs, slot_left, slot_place, twin_added}
 use Rattle.eb_dups.proofs.Cost.{few_attached}
 use Rattle.eb_dups.proofs.Descent.{slot_twins}
 use Rattle.eb_dups.proofs.twins.insert_dup.Goals as goal
@@ -25,6 +25,9 @@ attach-requires-clause-hangs g c = slot_hangs c.args.arena.now c.args.head c.slo
 
 pub attach-requires-clause-place_exists : goal.attach-requires-clause-place_exists
 attach-requires-clause-place_exists g c = slot_place c.args.arena.now c.args.head c.slot_below-slot.result _ c.requires.head c.slot_below-slot.ensures
+
+pub attach-requires-clause-left : goal.attach-requires-clause-left
+attach-requires-clause-left g c = slot_left c.args.arena.now c.args.head c.slot_below-slot.result _ c.requires.head c.slot_below-slot.ensures
 
 pub returns-clause-adds : goal.returns-clause-adds
 returns-clause-adds g c =

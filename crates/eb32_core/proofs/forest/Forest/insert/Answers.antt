@@ -2,8 +2,7 @@ use Rattle.std.proofs.Common.{◌≡◌, ◌+◌, ◌<◌, ◌^◌, set, length,
 use Rattle.std.proofs.lemmas.List.{get_or_default}
 use Rattle.sched_base.specs.KeyedList.{inserted_into, IsFree}
 use Rattle.eb_arena.specs.declared.links.Place.TheVariants as places
-use Rattle.eb_arena.specs.declared.element.Element.{Element}
-use Rattle.eb_arena.specs.Parts.{element_at, with_element}
+use Rattle.eb_arena.specs.Parts.{element_at}
 use Rattle.eb_dups.specs.Cost.{ChangesFew}
 use Rattle.eb_dups.proofs.Cost.{keeps_set, few_after}
 use Rattle.eb32_core.specs.Forest.{Grove, IsTended, seen_of}
@@ -16,7 +15,7 @@ pub plant-requires-clause-roomy : goal.plant-requires-clause-roomy
 plant-requires-clause-roomy g c =
     let f : Grove = record { parts = c.self.inside.arena; made = c.self.inside.made.items } in
     let v : f ≡ c.args.self.now = c.self.view_is in
-    let se : c.set.new.self ≡ keyed c.self.inside.arena c.args.entry c.args.key = c.set.ensures ∙ ap (λ (el : Element). with_element c.self.inside.arena c.args.entry (record el { key = c.args.key })) c.element-element.ensures in
+    let se : c.set_key.new.self ≡ keyed c.self.inside.arena c.args.entry c.args.key = c.set_key.ensures in
     let r : c.args.root < length f.parts.links = subst (λ x. c.args.root < length x.parts.links) (sym v) c.requires.root_exists in
     let e : c.args.entry < length f.parts.elements = subst (λ x. c.args.entry < length x.parts.elements) (sym v) c.requires.entry_exists in
     let n : (element_at f.parts c.args.entry).leaf_p ≡ places.Nowhere = free_nowhere f c.args.entry (tended f c.self.invariant) e (subst (λ x. IsFree c.args.entry (seen_of x)) (sym v) c.requires.free) in
@@ -27,7 +26,7 @@ pub plant-requires-clause-free : goal.plant-requires-clause-free
 plant-requires-clause-free g c =
     let f : Grove = record { parts = c.self.inside.arena; made = c.self.inside.made.items } in
     let v : f ≡ c.args.self.now = c.self.view_is in
-    let se : c.set.new.self ≡ keyed c.self.inside.arena c.args.entry c.args.key = c.set.ensures ∙ ap (λ (el : Element). with_element c.self.inside.arena c.args.entry (record el { key = c.args.key })) c.element-element.ensures in
+    let se : c.set_key.new.self ≡ keyed c.self.inside.arena c.args.entry c.args.key = c.set_key.ensures in
     let e : c.args.entry < length f.parts.elements = subst (λ x. c.args.entry < length x.parts.elements) (sym v) c.requires.entry_exists in
     let n : (element_at f.parts c.args.entry).leaf_p ≡ places.Nowhere = free_nowhere f c.args.entry (tended f c.self.invariant) e (subst (λ x. IsFree c.args.entry (seen_of x)) (sym v) c.requires.free) in
     subst (λ z. (element_at z c.args.entry).leaf_p ≡ places.Nowhere) (sym se) (key_leaf f.parts c.args.entry c.args.key c.args.entry e ∙ n)
@@ -36,7 +35,7 @@ pub invariant_of-self : goal.invariant_of-self
 invariant_of-self g c =
     let f : Grove = record { parts = c.self.inside.arena; made = c.self.inside.made.items } in
     let v : f ≡ c.args.self.now = c.self.view_is in
-    let se : c.set.new.self ≡ keyed c.self.inside.arena c.args.entry c.args.key = c.set.ensures ∙ ap (λ (el : Element). with_element c.self.inside.arena c.args.entry (record el { key = c.args.key })) c.element-element.ensures in
+    let se : c.set_key.new.self ≡ keyed c.self.inside.arena c.args.entry c.args.key = c.set_key.ensures in
     let r : c.args.root < length f.parts.links = subst (λ x. c.args.root < length x.parts.links) (sym v) c.requires.root_exists in
     let e : c.args.entry < length f.parts.elements = subst (λ x. c.args.entry < length x.parts.elements) (sym v) c.requires.entry_exists in
     let n : (element_at f.parts c.args.entry).leaf_p ≡ places.Nowhere = free_nowhere f c.args.entry (tended f c.self.invariant) e (subst (λ x. IsFree c.args.entry (seen_of x)) (sym v) c.requires.free) in
@@ -49,7 +48,7 @@ pub returns-clause-inserts : goal.returns-clause-inserts
 returns-clause-inserts g c =
     let f : Grove = record { parts = c.self.inside.arena; made = c.self.inside.made.items } in
     let v : f ≡ c.args.self.now = c.self.view_is in
-    let se : c.set.new.self ≡ keyed c.self.inside.arena c.args.entry c.args.key = c.set.ensures ∙ ap (λ (el : Element). with_element c.self.inside.arena c.args.entry (record el { key = c.args.key })) c.element-element.ensures in
+    let se : c.set_key.new.self ≡ keyed c.self.inside.arena c.args.entry c.args.key = c.set_key.ensures in
     let r : c.args.root < length f.parts.links = subst (λ x. c.args.root < length x.parts.links) (sym v) c.requires.root_exists in
     let e : c.args.entry < length f.parts.elements = subst (λ x. c.args.entry < length x.parts.elements) (sym v) c.requires.entry_exists in
     let n : (element_at f.parts c.args.entry).leaf_p ≡ places.Nowhere = free_nowhere f c.args.entry (tended f c.self.invariant) e (subst (λ x. IsFree c.args.entry (seen_of x)) (sym v) c.requires.free) in
@@ -62,4 +61,4 @@ returns-clause-inserts g c =
 pub returns-clause-few : goal.returns-clause-few
 returns-clause-few g c =
     let f : Grove = record { parts = c.self.inside.arena; made = c.self.inside.made.items } in
-    subst (λ x. ChangesFew 3 c.args.entry x.parts c.plant.new.arena) c.self.view_is (few_after 3 c.args.entry f.parts c.set.new.self c.plant.new.arena (keeps_set f.parts c.set.new.self c.args.entry _ c.set.ensures) c.plant.ensures.few)
+    subst (λ x. ChangesFew 3 c.args.entry x.parts c.plant.new.arena) c.self.view_is (few_after 3 c.args.entry f.parts c.set_key.new.self c.plant.new.arena (keeps_set f.parts c.set_key.new.self c.args.entry (record (element_at f.parts c.args.entry) { key = c.args.key }) c.set_key.ensures) c.plant.ensures.few)

@@ -1,25 +1,25 @@
-use Rattle.std.proofs.Common.{w16, refl, arith, rules}
+use Rattle.std.proofs.Common.{w16, arith, rules}
 use mir.Val.{SFits}
 use Rattle.std.proofs.lemmas.Int.{to_z-of_z}
-use Rattle.eb_arena.proofs.Columns.{counted, assembled}
+use Rattle.eb_arena.proofs.Halves.{counted, assembled_singly}
 use Rattle.eb_arena.proofs.arena.Arena.element.Goals as goal
 
 pub index-label-requires : goal.index-label-requires
-index-label-requires c = omega (arith, c.requires, c.self.inside.labels.ok.0, counted _ _ _ _ c.args.self.now c.self.view_is)
+index-label-requires c = omega (arith, c.requires, c.self.inside.labels.ok.0, counted _ _ _ c.args.self.now c.self.view_is)
 
 pub index-requires : goal.index-requires
-index-requires c = omega (arith, c.requires, c.self.inside.downs.ok.0, c.self.invariant.sides, counted _ _ _ _ c.args.self.now c.self.view_is)
+index-requires c = omega (arith, c.requires, c.self.inside.halves.ok.0, c.self.invariant.both, counted _ _ _ c.args.self.now c.self.view_is)
 
 pub index-requires-2 : goal.index-requires-2
-index-requires-2 c = omega (arith, c.requires, c.self.inside.downs.ok.0, c.self.invariant.sides, counted _ _ _ _ c.args.self.now c.self.view_is)
+index-requires-2 c = omega (arith, c.requires, c.self.inside.halves.ok.0, c.self.invariant.both, counted _ _ _ c.args.self.now c.self.view_is)
 
 pub index-requires-3 : goal.index-requires-3
-index-requires-3 c = omega (arith, c.requires, c.self.inside.ups.ok.0, c.self.invariant.parts, counted _ _ _ _ c.args.self.now c.self.view_is)
+index-requires-3 c = omega (arith, c.requires, c.self.inside.halves.ok.0, c.self.invariant.both, counted _ _ _ c.args.self.now c.self.view_is)
 
 pub index-requires-4 : goal.index-requires-4
-index-requires-4 c = omega (arith, c.requires, c.self.inside.ups.ok.0, c.self.invariant.parts, counted _ _ _ _ c.args.self.now c.self.view_is)
+index-requires-4 c = omega (arith, c.requires, c.self.inside.halves.ok.0, c.self.invariant.both, counted _ _ _ c.args.self.now c.self.view_is)
 
 pub returns : goal.returns
 returns c =
     let f : SFits w16 c.index-label.result.now.bit = search rules in
-    assembled _ _ _ _ c.args.self.now c.args.index _ c.index-label.result.now c.self.view_is c.self.invariant c.requires c.index.ensures c.index-2.ensures c.index-3.ensures c.index-4.ensures c.index-label.ensures refl (to_z-of_z w16 c.index-label.result.now.bit f)
+    assembled_singly _ _ _ c.args.self.now c.args.index c.index.result.now c.index-2.result.now c.index-3.result.now c.index-4.result.now c.index-label.result.now _ c.self.view_is c.self.invariant c.requires c.index.ensures c.index-2.ensures c.index-3.ensures c.index-4.ensures c.index-label.ensures (to_z-of_z w16 c.index-label.result.now.bit f)

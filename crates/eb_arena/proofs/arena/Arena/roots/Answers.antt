@@ -1,5 +1,8 @@
-use Rattle.eb_arena.proofs.Columns.{has_room}
+use Rattle.eb_arena.proofs.Halves.{counted_roots, has_room}
 use Rattle.eb_arena.proofs.arena.Arena.roots.Goals as goal
 
+pub returns-clause-count : goal.returns-clause-count
+returns-clause-count c = counted_roots _ _ _ c.args.self.now c.self.view_is
+
 pub returns-clause-room : goal.returns-clause-room
-returns-clause-room c = has_room _ _ _ _ c.args.self.now c.self.view_is c.self.invariant
+returns-clause-room c = has_room _ _ _ c.args.self.now c.self.view_is c.self.invariant

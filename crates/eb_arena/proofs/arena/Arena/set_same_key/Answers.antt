@@ -1,0 +1,19 @@
+use Rattle.std.proofs.Common.{w16, arith, rules}
+use mir.Val.{SFits}
+use Rattle.std.proofs.lemmas.Int.{to_z-of_z}
+use Rattle.eb_arena.proofs.Halves.{counted, written}
+use Rattle.eb_arena.proofs.arena.Arena.set_same_key.Goals as goal
+
+pub index_mut-requires : goal.index_mut-requires
+index_mut-requires c = omega (arith, c.requires.exists, c.self.inside.halves.ok.0, c.self.invariant.both, counted _ _ _ c.args.self.now c.self.view_is)
+
+pub index_mut-requires-2 : goal.index_mut-requires-2
+index_mut-requires-2 c = omega (arith, c.requires.exists, c.self.inside.halves.ok.0, c.self.invariant.both, counted _ _ _ c.args.self.now c.self.view_is)
+
+pub index_mut-requires-3 : goal.index_mut-requires-3
+index_mut-requires-3 c = omega (arith, c.requires.exists, c.self.inside.labels.ok.0, counted _ _ _ c.args.self.now c.self.view_is)
+
+pub returns : goal.returns
+returns c =
+    let f : SFits w16 c.args.element.bit = search rules in
+    written _ _ _ c.args.self.now c.args.index c.args.element c.index_mut-3.result.now _ c.self.view_is c.self.invariant c.requires.exists c.requires.same c.index_mut-3.ensures.value (to_z-of_z w16 c.args.element.bit f)
