@@ -1,7 +1,7 @@
 -- The halves of an arena, and the elements and roots that they hold.
-use Rattle.std.proofs.Common.{subst, ◌≡◌, ◌≢◌, ℕ, zero, suc, ◌+◌, ◌-◌, ◌*◌, ◌/◌, ◌%◌, ◌<◌, ◌≤◌, ℤ, List, [], ◌∷◌, length, get_or, set, replicate, refl, sym, ap, ◌∙◌, arith, tests}
+use Rattle.std.proofs.Common.{◌≡◌, ◌≢◌, ℕ, zero, suc, ◌+◌, ◌-◌, ◌*◌, ◌/◌, ◌%◌, ◌<◌, ◌≤◌, ℤ, List, ◌∷◌, length, get_or, set, replicate, refl, sym, ap, ◌∙◌, arith, tests}
 use Rattle.std.specs.Prelude.{if◌then◌else◌, nat_lt, Bool, true, false}
-use Rattle.std.proofs.lemmas.List.{get_or-set_same, get_or-set_other, set-get_or, get_or-replicate, length-replicate, length-set}
+use Rattle.std.proofs.lemmas.List.{get_or_default, get_or-set_same, get_or-set_other, set-get_or, get_or-replicate, length-replicate, length-set}
 use Rattle.eb_arena.specs.declared.links.Side.{Side}
 use Rattle.eb_arena.specs.declared.links.Side.TheVariants as sides
 use Rattle.eb_arena.specs.declared.links.Target.{Target}
@@ -58,12 +58,6 @@ from-constant f x k (suc n) h =
     let t : from f (suc k) n ≡ replicate n x = from-constant f x (suc k) n (λ j l. h j (omega (arith, l))) in
     ap (λ y. y ∷ from f (suc k) n) e ∙ ap (λ ys. x ∷ ys) t
 
--- what stands at an index that exists, whatever the default
-get_or-default : {X : Type 0} (xs : List X) (i : ℕ) (d e : X) → i < length xs → get_or xs i d ≡ get_or xs i e
-get_or-default [] i d e h = absurd (omega (arith, h))
-get_or-default (x ∷ xs) zero d e h = refl
-get_or-default (x ∷ xs) (suc i) d e h = get_or-default xs i d e (omega (arith, h))
-
 -- the label with a number
 abbrev label_at : List Label → ℕ → Label
 label_at l i = get_or l i no_label
@@ -108,28 +102,23 @@ read h l r a i v b =
 
 -- what was read at a half's number is the half
 found : (h : List Half) (n : ℕ) (x : Half) → n < length h → x ≡ get_or h n x → x ≡ half_at h n
-found h n x b e = e ∙ get_or-default h n x no_half b
+found h n x b e = e ∙ get_or_default h n x no_half b
 
--- an element out of what was read
-assembled : (h : List Half) (l : List Label) (r : ℕ) (a : Parts) (i : ℕ) (x y : Half) (z : Label) (b : ℤ) → parts_of h l r ≡ a → Fits h l r → i < length a.elements → x ≡ get_or h (2 * i) x → y ≡ get_or h (2 * i + 1) y → z ≡ get_or l i z → b ≡ z.bit → record (joined x y z) { bit = b } ≡ element_at a i
-assembled h l r a i x y z b v f c hx hy hz hb =
-    let il : i < length l = omega (arith, counted h l r a v, c) in
-    let n0 : 2 * i < length h = half_fits h l r a i (2 * i) v f c (omega arith) in
-    let n1 : 2 * i + 1 < length h = half_fits h l r a i (2 * i + 1) v f c (omega arith) in
-    ap (λ w. record (joined x y z) { bit = w }) hb
-    ∙ (joined-same x y z (half_at h (2 * i)) (half_at h (2 * i + 1)) (label_at l i) (found h (2 * i) x n0 hx) (found h (2 * i + 1) y n1 hy) (hz ∙ get_or-default l i z no_label il)
-    ∙ read h l r a i v c)
-
--- an element out of what was read of its halves one link at a time
-pub assembled_singly : (h : List Half) (l : List Label) (r : ℕ) (a : Parts) (i : ℕ) (x y u v : Half) (z : Label) (b : ℤ) → parts_of h l r ≡ a → Fits h l r → i < length a.elements → x ≡ get_or h (2 * i) x → y ≡ get_or h (2 * i + 1) y → u ≡ get_or h (2 * i + 1) u → v ≡ get_or h (2 * i) v → z ≡ get_or l i z → b ≡ z.bit → record { left = x.down; right = y.down; node_p = u.up; leaf_p = v.up; key = z.key; bit = b } ≡ element_at a i
-assembled_singly h l r a i x y u v z b w f c hx hy hu hv hz hb =
+-- an element out of what was read of its halves, one link at a time
+pub assembled : (h : List Half) (l : List Label) (r : ℕ) (a : Parts) (i : ℕ) (x y u v : Half) (z : Label) (b : ℤ) → parts_of h l r ≡ a → Fits h l r → i < length a.elements → x ≡ get_or h (2 * i) x → y ≡ get_or h (2 * i + 1) y → u ≡ get_or h (2 * i + 1) u → v ≡ get_or h (2 * i) v → z ≡ get_or l i z → b ≡ z.bit → record { left = x.down; right = y.down; node_p = u.up; leaf_p = v.up; key = z.key; bit = b } ≡ element_at a i
+assembled h l r a i x y u v z b w f c hx hy hu hv hz hb =
+    let il : i < length l = omega (arith, counted h l r a w, c) in
     let n0 : 2 * i < length h = half_fits h l r a i (2 * i) w f c (omega arith) in
     let n1 : 2 * i + 1 < length h = half_fits h l r a i (2 * i + 1) w f c (omega arith) in
-    let eu : u ≡ y = found h (2 * i + 1) u n1 hu ∙ sym (found h (2 * i + 1) y n1 hy) in
-    let ev : v ≡ x = found h (2 * i) v n0 hv ∙ sym (found h (2 * i) x n0 hx) in
-    subst (λ (t : Half). record { left = x.down; right = y.down; node_p = t.up; leaf_p = v.up; key = z.key; bit = b } ≡ element_at a i) (sym eu)
-    (subst (λ (t : Half). record { left = x.down; right = y.down; node_p = y.up; leaf_p = t.up; key = z.key; bit = b } ≡ element_at a i) (sym ev)
-    (assembled h l r a i x y z b w f c hx hy hz hb))
+    let eu : u ≡ half_at h (2 * i + 1) = found h (2 * i + 1) u n1 hu in
+    let ev : v ≡ half_at h (2 * i) = found h (2 * i) v n0 hv in
+    ap (λ t. record { left = x.down; right = y.down; node_p = u.up; leaf_p = v.up; key = z.key; bit = t }) hb
+    ∙ (ap (λ (t : Half). record { left = x.down; right = y.down; node_p = t.up; leaf_p = v.up; key = z.key; bit = z.bit }) eu
+    ∙ (ap (λ (t : Half). record { left = x.down; right = y.down; node_p = (half_at h (2 * i + 1)).up; leaf_p = t.up; key = z.key; bit = z.bit }) ev
+    ∙ (ap (λ (t : Half). record { left = t.down; right = y.down; node_p = (half_at h (2 * i + 1)).up; leaf_p = (half_at h (2 * i)).up; key = z.key; bit = z.bit }) (found h (2 * i) x n0 hx)
+    ∙ (ap (λ t. joined (half_at h (2 * i)) (record (half_at h (2 * i + 1)) { down = t }) z) (ap (λ (t : Half). t.down) (found h (2 * i + 1) y n1 hy))
+    ∙ (ap (joined (half_at h (2 * i)) (half_at h (2 * i + 1))) (hz ∙ get_or_default l i z no_label il)
+    ∙ read h l r a i w c)))))
 
 -- the halves and the label of an index written anew
 rewritten : (h : List Half) (l : List Label) (r : ℕ) (a : Parts) (i : ℕ) (x y : Half) (z : Label) → parts_of h l r ≡ a → Fits h l r → i < length a.elements → parts_of (set (set h (2 * i) x) (2 * i + 1) y) (set l i z) r ≡ with_element a i (joined x y z)
@@ -163,7 +152,7 @@ rewritten h l r a i x y z v f b =
 pub written : (h : List Half) (l : List Label) (r : ℕ) (a : Parts) (i : ℕ) (e : Element) (z : Label) (b : ℤ) → parts_of h l r ≡ a → Fits h l r → i < length a.elements → e.key ≡ (element_at a i).key → z ≡ get_or l i z → b ≡ e.bit → parts_of (set (set h (2 * i) (record { down = e.left; up = e.leaf_p })) (2 * i + 1) (record { down = e.right; up = e.node_p })) (set l i (record { key = z.key; bit = b })) r ≡ with_element a i e
 written h l r a i e z b v f c k hz g =
     let il : i < length l = omega (arith, counted h l r a v, c) in
-    let s : z ≡ label_at l i = hz ∙ get_or-default l i z no_label il in
+    let s : z ≡ label_at l i = hz ∙ get_or_default l i z no_label il in
     let y : z.key ≡ e.key = ap (λ (w : Label). w.key) s ∙ (ap (λ (w : Element). w.key) (read h l r a i v c) ∙ sym k) in
     rewritten h l r a i (record { down = e.left; up = e.leaf_p }) (record { down = e.right; up = e.node_p }) (record { key = z.key; bit = b }) v f c
     ∙ (ap (λ w. with_element a i (record e { bit = w; key = z.key })) g
@@ -231,7 +220,7 @@ root_put h l r a q n x v f b e = ap (λ m. parts_of (set h (2 * (m + q)) x) l r)
 pub key_put : (h : List Half) (l : List Label) (r : ℕ) (a : Parts) (i k : ℕ) (z : Label) → parts_of h l r ≡ a → Fits h l r → i < length a.elements → z ≡ get_or l i z → parts_of h (set l i (record { key = k; bit = z.bit })) r ≡ with_element a i (record (element_at a i) { key = k })
 key_put h l r a i k z v f b e =
     let il : i < length l = omega (arith, counted h l r a v, b) in
-    let s : z ≡ label_at l i = e ∙ get_or-default l i z no_label il in
+    let s : z ≡ label_at l i = e ∙ get_or_default l i z no_label il in
     label_put h l r a i (record z { key = k }) v f b
     ∙ ap (λ w. with_element a i w) (ap (λ (w : Label). joined (half_at h (2 * i)) (half_at h (2 * i + 1)) (record w { key = k })) s ∙ ap (λ (w : Element). record w { key = k }) (read h l r a i v b))
 
