@@ -1,4 +1,4 @@
--- How far a forest of one root is filled.
+-- How far a forest of one root is filled (docs/TREES.md, "Timing").
 use Rattle.std.specs.Prelude.{◌≡◌, ℕ, ◌+◌, ◌<◌, ◌≤◌, length, slice_index}
 use Rattle.sched_base.specs.KeyedList.{IsFree, IsPlaced}
 use Rattle.eb32_core.specs.Forest.{Grove, seen_of}
