@@ -20,6 +20,7 @@ moved_past k (calls.Wake j f) i h = rw (ne_eqb i j.0 (omega arith))
 moved_past k (calls.Kill j) i h = rw (ne_eqb i j.0 (omega arith))
 moved_past k (calls.Post j b) i h = rw (ne_eqb i j.0 (omega arith))
 moved_past k (calls.Get g) i h = if_same (is_about i (calls.Get g)) resting
+moved_past k (calls.Draw j) i h = rw (ne_eqb i j.0 (omega arith))
 moved_past k (calls.Take j) i h = rw (ne_eqb i j.0 (omega arith))
 moved_past k (calls.DropRun j) i h = rw (ne_eqb i j.0 (omega arith))
 moved_past k (calls.Retire j) i h = rw (ne_eqb i j.0 (omega arith))

@@ -13,7 +13,7 @@ use Rattle.task_machine.specs.declared.calls.Call.TheVariants as calls
 use Rattle.task_machine.specs.declared.calls.Reply.{Reply}
 use Rattle.task_machine.specs.declared.calls.Reply.TheVariants as replies
 use Rattle.task_machine.specs.declared.calls.Entry.{Entry}
-use Rattle.task_machine.specs.Task.{resting, is_gone, put, in_hands, in_run, seen_at, woken, flagged, got}
+use Rattle.task_machine.specs.Task.{resting, is_gone, put, in_hands, in_draw, in_run, is_boxed, seen_at, woken, flagged, got}
 use Rattle.task_machine.specs.Step.{State, task_at, is_about, needs, fits, changed, put_task, IsReply, Allowed}
 use Rattle.task_machine.specs.History.{stepped, Legal, led}
 use Rattle.task_machine.specs.Since.{wake_of, is_kill, is_take, first_reasons, reasons_since, killed_since, Tells, TakesTell, OpensAs, IsOpening}
@@ -43,6 +43,7 @@ woken-agrees : (k : CallerId) (f n : ℕ) (b : Bool) (p : Place) (x : ℕ) (y : 
 woken-agrees k f n b places.Rest x y m h = λ _. (ap (λ v. bit_or v f) (h refl).0, (h refl).1)
 woken-agrees k f n b (places.Hands j) x y m h = λ _. (ap (λ v. bit_or v f) (h refl).0, (h refl).1)
 woken-agrees k f n b (places.Boxed c) x y m h = λ _. (ap (λ v. bit_or v f) (h refl).0, (h refl).1)
+woken-agrees k f n b (places.Drawn j) x y m h = λ _. (ap (λ v. bit_or v f) (h refl).0, (h refl).1)
 woken-agrees k f n b (places.Runs j) x y m h = λ _. (ap (λ v. bit_or v f) (h refl).0, (h refl).1)
 woken-agrees k f n b places.Gone x y m h = λ e. cc
 
@@ -50,6 +51,7 @@ flagged-agrees : (k : CallerId) (n : ℕ) (b : Bool) (p : Place) (x : ℕ) (y : 
 flagged-agrees k n b places.Rest x y m h = λ _. ((h refl).0, refl)
 flagged-agrees k n b (places.Hands j) x y m h = λ _. ((h refl).0, refl)
 flagged-agrees k n b (places.Boxed c) x y m h = λ _. ((h refl).0, refl)
+flagged-agrees k n b (places.Drawn j) x y m h = λ _. ((h refl).0, refl)
 flagged-agrees k n b (places.Runs j) x y m h = λ _. ((h refl).0, refl)
 flagged-agrees k n b places.Gone x y m h = λ e. cc
 
@@ -61,6 +63,7 @@ got-agrees-at : (k : CallerId) (n : ℕ) (b : Bool) (p : Place) (x : ℕ) (y : B
 got-agrees-at k n b places.Rest x y m h = h
 got-agrees-at k n b (places.Hands j) x y m h = h
 got-agrees-at k n b (places.Boxed c) x y m h = got-agrees k n b (at (places.Boxed c) x y m) (k.0 == c) h refl
+got-agrees-at k n b (places.Drawn j) x y m h = h
 got-agrees-at k n b (places.Runs j) x y m h = h
 got-agrees-at k n b places.Gone x y m h = h
 
@@ -68,13 +71,23 @@ pub held_not_gone : (k : CallerId) (p : Place) → in_hands k p ≡ true → is_
 held_not_gone k places.Rest h = refl
 held_not_gone k (places.Hands j) h = refl
 held_not_gone k (places.Boxed c) h = refl
+held_not_gone k (places.Drawn j) h = refl
 held_not_gone k (places.Runs j) h = refl
 held_not_gone k places.Gone h = cc
+
+pub boxed_not_gone : (c : ℕ) (p : Place) → is_boxed c p ≡ true → is_gone p ≡ false
+boxed_not_gone c places.Rest h = refl
+boxed_not_gone c (places.Hands j) h = refl
+boxed_not_gone c (places.Boxed d) h = refl
+boxed_not_gone c (places.Drawn j) h = refl
+boxed_not_gone c (places.Runs j) h = refl
+boxed_not_gone c places.Gone h = cc
 
 pub run_not_gone : (k : CallerId) (p : Place) → in_run k p ≡ true → is_gone p ≡ false
 run_not_gone k places.Rest h = refl
 run_not_gone k (places.Hands j) h = refl
 run_not_gone k (places.Boxed c) h = refl
+run_not_gone k (places.Drawn j) h = refl
 run_not_gone k (places.Runs j) h = refl
 run_not_gone k places.Gone h = cc
 
@@ -90,6 +103,7 @@ changed-agrees w k (calls.Wake j f) i t n b fit e h = rw (e, or_false b) (woken-
 changed-agrees w k (calls.Kill j) i t n b fit e h = rw (e, or_zero_r n, or-true b) (flagged-agrees k n b t.place t.pending t.killed t.takes h)
 changed-agrees w k (calls.Post j c) i t n b fit e h = rw (or_zero_r n, or_false b) (λ _. h (held_not_gone k t.place fit))
 changed-agrees w k (calls.Get g) i t n b fit e h = rw (or_zero_r n, or_false b) (got-agrees-at k n b t.place t.pending t.killed t.takes h)
+changed-agrees w k (calls.Draw j) i t n b fit e h = rw (or_zero_r n, or_false b) (λ _. h (boxed_not_gone w t.place fit))
 changed-agrees w k (calls.Take j) i t n b fit e h = rw e (λ _. (refl, refl))
 changed-agrees w k (calls.DropRun j) i t n b fit e h = rw (or_zero_r n, or_false b) (λ _. h (run_not_gone k t.place fit))
 changed-agrees w k (calls.Retire j) i t n b fit e h = λ g. cc
@@ -99,6 +113,7 @@ apart-agrees (calls.Wake j f) i t n b e h = rw (e, or_zero_r n, or_false b) h
 apart-agrees (calls.Kill j) i t n b e h = rw (e, or_zero_r n, or_false b) h
 apart-agrees (calls.Post j c) i t n b e h = rw (or_zero_r n, or_false b) h
 apart-agrees (calls.Get g) i t n b e h = rw (or_zero_r n, or_false b) h
+apart-agrees (calls.Draw j) i t n b e h = rw (or_zero_r n, or_false b) h
 apart-agrees (calls.Take j) i t n b e h = rw (e, or_zero_r n, or_false b) h
 apart-agrees (calls.DropRun j) i t n b e h = rw (or_zero_r n, or_false b) h
 apart-agrees (calls.Retire j) i t n b e h = rw (or_zero_r n, or_false b) h
@@ -132,10 +147,11 @@ Agrees-legal is_init past s (e ∷ es) l h =
     rw (← append_assoc past (e ∷ []) es) (Agrees-legal is_init (past ++ e ∷ []) (stepped s e) es l.1 (Agrees-step is_init past s e l.0 h))
 
 -- the reply of a take of task i tells what the task has
-seen-tells : (k : CallerId) (p : Place) (n : ℕ) (b : Bool) (t : TaskState) → in_hands k p ≡ true → t.place ≡ p → AgreesAt n b t → Tells n b (replies.Task (seen_at p t))
+seen-tells : (k : CallerId) (p : Place) (n : ℕ) (b : Bool) (t : TaskState) → (in_hands k p || in_draw k p) ≡ true → t.place ≡ p → AgreesAt n b t → Tells n b (replies.Task (seen_at p t))
 seen-tells k places.Rest n b t held e h = cc
 seen-tells k (places.Hands j) n b t held e h = h (ap is_gone e)
 seen-tells k (places.Boxed c) n b t held e h = cc
+seen-tells k (places.Drawn j) n b t held e h = h (ap is_gone e)
 seen-tells k (places.Runs j) n b t held e h = cc
 seen-tells k places.Gone n b t held e h = cc
 
@@ -144,6 +160,7 @@ take-tells s k (calls.Wake j f) r i n b e fit reply h = cc
 take-tells s k (calls.Kill j) r i n b e fit reply h = cc
 take-tells s k (calls.Post j c) r i n b e fit reply h = cc
 take-tells s k (calls.Get g) r i n b e fit reply h = cc
+take-tells s k (calls.Draw j) r i n b e fit reply h = cc
 take-tells s k (calls.Take j) r i n b e fit reply h =
     let t = task_at s j.0 in
     let here : AgreesAt n b t = subst (λ (m : ℕ). AgreesAt n b (task_at s m)) (eqb-true i j.0 e) h in

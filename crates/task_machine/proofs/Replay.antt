@@ -13,19 +13,15 @@ abbrev has_room : TaskState → Bool
 has_room t = nat_lt t.takes (2 ^ 48 - 1)
 
 abbrev is_roomy : Call → TaskState → Bool
-is_roomy (calls.Wake i f) t = true
-is_roomy (calls.Kill i) t = true
-is_roomy (calls.Post i b) t = true
-is_roomy (calls.Get g) t = true
 is_roomy (calls.Take i) t = has_room t
-is_roomy (calls.DropRun i) t = true
-is_roomy (calls.Retire i) t = true
+is_roomy c t = true
 
 Roomy-is_roomy : (c : Call) (t : TaskState) → is_roomy c t ≡ true → Roomy c t
 Roomy-is_roomy (calls.Wake i f) t h = tt
 Roomy-is_roomy (calls.Kill i) t h = tt
 Roomy-is_roomy (calls.Post i b) t h = tt
 Roomy-is_roomy (calls.Get g) t h = tt
+Roomy-is_roomy (calls.Draw i) t h = tt
 Roomy-is_roomy (calls.Take i) t h = ltb-true t.takes (2 ^ 48 - 1) h
 Roomy-is_roomy (calls.DropRun i) t h = tt
 Roomy-is_roomy (calls.Retire i) t h = tt

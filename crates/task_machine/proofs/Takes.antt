@@ -32,6 +32,7 @@ takes-changed k (calls.Wake j f) i t h = rw (takes_woken k f t) (omega arith)
 takes-changed k (calls.Kill j) i t h = rw (takes_flagged k t) (omega arith)
 takes-changed k (calls.Post j b) i t h = omega arith
 takes-changed k (calls.Get g) i t h = rw (takes_got k t) (omega arith)
+takes-changed k (calls.Draw j) i t h = omega arith
 takes-changed k (calls.Take j) i t h = rw h (omega arith)
 takes-changed k (calls.DropRun j) i t h = omega arith
 takes-changed k (calls.Retire j) i t h = omega arith

@@ -106,6 +106,26 @@ unfolding mask_of
 wrap_around-not_legal h =
     let same = replayed-legal (alone (seated 0 resting)) (wrap_around 4) h in cc
 
+-- a task in the shared box is drawn by one caller, who takes it
+abbrev drawn_and_taken : ℕ → List Entry
+drawn_and_taken k =
+    by 1 (calls.Draw task) replies.Done
+    ∷ by 0 (calls.Get 0) (replies.Group 0)
+    ∷ by k (calls.Take task) (saw stands.Queued 1 false 0)
+    ∷ []
+
+drawn_and_taken-legal : Legal (alone (seated 1 resting)) (drawn_and_taken 1)
+unfolding mask_of
+drawn_and_taken-legal = Legal-replayed (alone (seated 1 resting)) (drawn_and_taken 1) refl refl
+
+-- nobody else may take it
+drawn_and_taken-not_legal : Legal (alone (seated 1 resting)) (drawn_and_taken 0) → ⊥
+drawn_and_taken-not_legal h = let fit = h.1.1.0.fit in cc
+
+-- what is not in the shared box is not drawn
+draw_of_own-not_legal : Legal (alone (seated 0 resting)) (drawn_and_taken 1) → ⊥
+draw_of_own-not_legal h = let fit = h.0.fit in cc
+
 -- one round of a task that wakes itself, which finds what the round before left
 abbrev self_wake : ℕ → ℕ → ℕ → ℕ → List Entry
 self_wake word reasons m n =

@@ -15,32 +15,17 @@ use Rattle.task_machine.specs.Step.{State, task_at}
 -- the reasons that a call gives task i
 abbrev pub wake_of : ℕ → Call → ℕ
 wake_of i (calls.Wake j f) = if i == j.0 then f else 0
-wake_of i (calls.Kill j) = 0
-wake_of i (calls.Post j b) = 0
-wake_of i (calls.Get g) = 0
-wake_of i (calls.Take j) = 0
-wake_of i (calls.DropRun j) = 0
-wake_of i (calls.Retire j) = 0
+wake_of i c = 0
 
 -- whether a call kills task i
 abbrev pub is_kill : ℕ → Call → Bool
-is_kill i (calls.Wake j f) = false
 is_kill i (calls.Kill j) = i == j.0
-is_kill i (calls.Post j b) = false
-is_kill i (calls.Get g) = false
-is_kill i (calls.Take j) = false
-is_kill i (calls.DropRun j) = false
-is_kill i (calls.Retire j) = false
+is_kill i c = false
 
 -- whether a call takes task i
 abbrev pub is_take : ℕ → Call → Bool
-is_take i (calls.Wake j f) = false
-is_take i (calls.Kill j) = false
-is_take i (calls.Post j b) = false
-is_take i (calls.Get g) = false
 is_take i (calls.Take j) = i == j.0
-is_take i (calls.DropRun j) = false
-is_take i (calls.Retire j) = false
+is_take i c = false
 
 -- the union of the reasons of all wakes of task i
 abbrev pub reasons_in : ℕ → List Entry → ℕ

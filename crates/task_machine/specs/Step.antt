@@ -10,7 +10,7 @@ use Rattle.task_machine.specs.declared.calls.Call.TheVariants as calls
 use Rattle.task_machine.specs.declared.calls.Reply.{Reply}
 use Rattle.task_machine.specs.declared.calls.Reply.TheVariants as replies
 use Rattle.task_machine.specs.declared.calls.Entry.{Entry}
-use Rattle.task_machine.specs.Task.{resting, gone, put, in_hands, in_run, is_boxed, seen_of, woken, flagged, got, taken, dropped, IsValidTask}
+use Rattle.task_machine.specs.Task.{resting, gone, put, in_hands, in_draw, in_run, is_boxed, seen_of, woken, flagged, got, taken, dropped, IsValidTask}
 
 -- the state of the machine: how many workers there are, and the state of each task
 pub record State : Type 0 where
@@ -31,19 +31,15 @@ subject (calls.Wake i f) = i.0
 subject (calls.Kill i) = i.0
 subject (calls.Post i b) = i.0
 subject (calls.Get g) = 64 * g
+subject (calls.Draw i) = i.0
 subject (calls.Take i) = i.0
 subject (calls.DropRun i) = i.0
 subject (calls.Retire i) = i.0
 
 -- whether a call is about task i: it names it, or gets its group
 abbrev pub is_about : ℕ → Call → Bool
-is_about i (calls.Wake j f) = i == j.0
-is_about i (calls.Kill j) = i == j.0
-is_about i (calls.Post j b) = i == j.0
 is_about i (calls.Get g) = i / 64 == g
-is_about i (calls.Take j) = i == j.0
-is_about i (calls.DropRun j) = i == j.0
-is_about i (calls.Retire j) = i == j.0
+is_about i c = i == subject c
 
 -- whether there is a task i
 abbrev pub is_task : State → ℕ → Bool
@@ -56,12 +52,9 @@ is_box s b = nat_lt b (s.workers + 1)
 -- what a call must name beside its caller and its task: a reason, a box, or a worker as the caller
 abbrev pub names : State → CallerId → Call → Bool
 names s k (calls.Wake i f) = not (f == 0)
-names s k (calls.Kill i) = true
 names s k (calls.Post i b) = is_box s b
 names s k (calls.Get g) = nat_lt k.0 s.workers
-names s k (calls.Take i) = true
-names s k (calls.DropRun i) = true
-names s k (calls.Retire i) = true
+names s k c = true
 
 -- whether all that caller k names in a call is there
 abbrev pub is_named : State → CallerId → Call → Bool
@@ -73,9 +66,10 @@ needs w k (calls.Wake i f) p = true
 needs w k (calls.Kill i) p = true
 needs w k (calls.Post i b) p = in_hands k p
 needs w k (calls.Get g) p = true
-needs w k (calls.Take i) p = in_hands k p
+needs w k (calls.Draw i) p = is_boxed w p
+needs w k (calls.Take i) p = in_hands k p || in_draw k p
 needs w k (calls.DropRun i) p = in_run k p
-needs w k (calls.Retire i) p = in_hands k p || in_run k p
+needs w k (calls.Retire i) p = in_hands k p || (in_draw k p || in_run k p)
 
 -- the task can be taken once more: its number of takes has room
 abbrev pub HasRoom : TaskState → Type 0
@@ -83,13 +77,8 @@ HasRoom t = t.takes < 2 ^ 48 - 1
 
 -- only a take needs room
 abbrev pub Roomy : Call → TaskState → Type 0
-Roomy (calls.Wake i f) t = Unit {0}
-Roomy (calls.Kill i) t = Unit {0}
-Roomy (calls.Post i b) t = Unit {0}
-Roomy (calls.Get g) t = Unit {0}
 Roomy (calls.Take i) t = HasRoom t
-Roomy (calls.DropRun i) t = Unit {0}
-Roomy (calls.Retire i) t = Unit {0}
+Roomy c t = Unit {0}
 
 -- column "change": what a call of caller k makes of a task that it is about
 abbrev pub changed : CallerId → Call → TaskState → TaskState
@@ -97,6 +86,7 @@ changed k (calls.Wake i f) t = woken k f t
 changed k (calls.Kill i) t = flagged k t
 changed k (calls.Post i b) t = put (places.Boxed b) t
 changed k (calls.Get g) t = got k t
+changed k (calls.Draw i) t = put (places.Drawn k) t
 changed k (calls.Take i) t = taken k t
 changed k (calls.DropRun i) t = dropped k t
 changed k (calls.Retire i) t = gone
@@ -128,15 +118,12 @@ IsBoxIn ts b g n =
 abbrev pub IsBox : State → ℕ → ℕ → ℕ → Type 0
 IsBox s b g n = IsBoxIn s.tasks b g n
 
--- column "reply": r is the answer to a call of caller k
+-- column "reply": r is the answer to a call of caller k; where nothing else is said, what the call saw of its task
 abbrev pub IsReply : State → CallerId → Call → Reply → Type 0
-IsReply s k (calls.Wake i f) r = r ≡ replies.Task (seen_of (task_at s i.0))
-IsReply s k (calls.Kill i) r = r ≡ replies.Task (seen_of (task_at s i.0))
 IsReply s k (calls.Post i b) r = r ≡ replies.Done
 IsReply s k (calls.Get g) r = (n : ℕ) × (r ≡ replies.Group n) × IsBox s k.0 g n
-IsReply s k (calls.Take i) r = r ≡ replies.Task (seen_of (task_at s i.0))
-IsReply s k (calls.DropRun i) r = r ≡ replies.Task (seen_of (task_at s i.0))
-IsReply s k (calls.Retire i) r = r ≡ replies.Task (seen_of (task_at s i.0))
+IsReply s k (calls.Draw i) r = r ≡ replies.Done
+IsReply s k c r = r ≡ replies.Task (seen_of (task_at s (subject c)))
 
 -- whether the task that a call names is where the call needs it
 abbrev pub fits : State → CallerId → Call → Bool
@@ -170,10 +157,7 @@ mask_of s b i (suc n) = bit (is_boxed b (task_at s i).place) + 2 * mask_of s b (
 
 -- the reply to a call of caller k, computed
 abbrev pub reply_of : State → CallerId → Call → Reply
-reply_of s k (calls.Wake i f) = replies.Task (seen_of (task_at s i.0))
-reply_of s k (calls.Kill i) = replies.Task (seen_of (task_at s i.0))
 reply_of s k (calls.Post i b) = replies.Done
 reply_of s k (calls.Get g) = replies.Group (mask_of s k.0 (64 * g) 64)
-reply_of s k (calls.Take i) = replies.Task (seen_of (task_at s i.0))
-reply_of s k (calls.DropRun i) = replies.Task (seen_of (task_at s i.0))
-reply_of s k (calls.Retire i) = replies.Task (seen_of (task_at s i.0))
+reply_of s k (calls.Draw i) = replies.Done
+reply_of s k c = replies.Task (seen_of (task_at s (subject c)))

@@ -27,35 +27,28 @@ put p t = record t { place = p }
 
 -- whether the place is the hands of caller k
 abbrev pub in_hands : CallerId → Place → Bool
-in_hands k places.Rest = false
 in_hands k (places.Hands j) = k.0 == j.0
-in_hands k (places.Boxed b) = false
-in_hands k (places.Runs j) = false
-in_hands k places.Gone = false
+in_hands k p = false
+
+-- whether caller k has drawn the task
+abbrev pub in_draw : CallerId → Place → Bool
+in_draw k (places.Drawn j) = k.0 == j.0
+in_draw k p = false
 
 -- whether caller k runs the task
 abbrev pub in_run : CallerId → Place → Bool
-in_run k places.Rest = false
-in_run k (places.Hands j) = false
-in_run k (places.Boxed b) = false
 in_run k (places.Runs j) = k.0 == j.0
-in_run k places.Gone = false
+in_run k p = false
 
 -- whether the place is box b
 abbrev pub is_boxed : ℕ → Place → Bool
-is_boxed b places.Rest = false
-is_boxed b (places.Hands j) = false
 is_boxed b (places.Boxed c) = b == c
-is_boxed b (places.Runs j) = false
-is_boxed b places.Gone = false
+is_boxed b p = false
 
 -- whether the place is the end of the task
 abbrev pub is_gone : Place → Bool
-is_gone places.Rest = false
-is_gone (places.Hands j) = false
-is_gone (places.Boxed b) = false
-is_gone (places.Runs j) = false
 is_gone places.Gone = true
+is_gone p = false
 
 -- what a call sees of a live task that stands so
 abbrev pub live : Stand → TaskState → Seen
@@ -66,6 +59,7 @@ abbrev pub seen_at : Place → TaskState → Seen
 seen_at places.Rest t = live stands.Rest t
 seen_at (places.Hands j) t = live stands.Queued t
 seen_at (places.Boxed b) t = live stands.Queued t
+seen_at (places.Drawn j) t = live stands.Queued t
 seen_at (places.Runs j) t = live stands.Runs t
 seen_at places.Gone t = views.Gone
 
@@ -76,10 +70,7 @@ seen_of t = seen_at t.place t
 -- a task at rest comes into the hands of the caller that gives it something to run for
 abbrev pub raised : CallerId → Place → Place
 raised k places.Rest = places.Hands k
-raised k (places.Hands j) = places.Hands j
-raised k (places.Boxed b) = places.Boxed b
-raised k (places.Runs j) = places.Runs j
-raised k places.Gone = places.Gone
+raised k p = p
 
 -- the task after a wake by caller k with the reasons f
 abbrev pub woken : CallerId → ℕ → TaskState → TaskState
@@ -111,6 +102,7 @@ abbrev pub ValidAt : Place → TaskState → Type 0
 ValidAt places.Rest t = is_busy t ≡ false
 ValidAt (places.Hands j) t = is_busy t ≡ true
 ValidAt (places.Boxed b) t = is_busy t ≡ true
+ValidAt (places.Drawn j) t = is_busy t ≡ true
 ValidAt (places.Runs j) t = Unit {0}
 ValidAt places.Gone t = t ≡ gone
 

@@ -17,7 +17,9 @@ pub enum Call {
     Post(TaskId, u32),
     /// Takes the tasks of a group, 64 tasks from `64 * group` on, out of the caller's own box.
     Get(u32),
-    /// Takes a task that the caller has in its hands, to run it.
+    /// Draws a task out of the shared box, to take it next.
+    Draw(TaskId),
+    /// Takes a task that the caller has in its hands or has drawn, to run it.
     Take(TaskId),
     /// Ends a task's run.
     DropRun(TaskId),
@@ -34,6 +36,7 @@ impl Call {
             Call::Wake(id, _)
             | Call::Kill(id)
             | Call::Post(id, _)
+            | Call::Draw(id)
             | Call::Take(id)
             | Call::DropRun(id)
             | Call::Retire(id) => id.0 as usize,

@@ -1,6 +1,6 @@
 //! What holds of every machine, as functions that do nothing and whose contracts are the laws.
 
-ghost use Rattle.task_machine.specs.Laws.{StepsKeepValidity, OpeningsAreValid, CallsHaveOneReply, RefusalsAreExact, HistoriesHaveOneEnd, TakesTellReasonsSince};
+ghost use Rattle.task_machine.specs.Laws.{StepsKeepValidity, OpeningsAreValid, SeatsAndDealsKeepValidity, CallsHaveOneReply, RefusalsAreExact, HistoriesHaveOneEnd, TakesTellReasonsSince};
 
 /// Every step leads from a valid state to a valid one.
 pub fn steps_keep_validity()
@@ -10,6 +10,11 @@ pub fn steps_keep_validity()
 /// Every opening is valid.
 pub fn openings_are_valid()
     ensures { OpeningsAreValid }
+{}
+
+/// Seating a task, and dealing one that is in a box, keep the tasks' states valid.
+pub fn seats_and_deals_keep_validity()
+    ensures { SeatsAndDealsKeepValidity }
 {}
 
 /// A call has one right reply.

@@ -149,7 +149,11 @@ impl Machine {
                 Call::Wake(_, reasons) => !reasons.is_empty(),
                 Call::Post(_, boxno) => boxno <= self.workers,
                 Call::Get(_) => caller.0 < self.workers,
-                Call::Kill(_) | Call::Take(_) | Call::DropRun(_) | Call::Retire(_) => true,
+                Call::Kill(_)
+                | Call::Draw(_)
+                | Call::Take(_)
+                | Call::DropRun(_)
+                | Call::Retire(_) => true,
             }
     }
 
@@ -161,9 +165,14 @@ impl Machine {
         let place = self.tasks[call.subject()].place;
         match *call {
             Call::Wake(..) | Call::Kill(_) | Call::Get(_) => true,
-            Call::Post(..) | Call::Take(_) => place.is_in_hands_of(caller),
+            Call::Post(..) => place.is_in_hands_of(caller),
+            Call::Draw(_) => place.is_in_box(self.workers),
+            Call::Take(_) => place.is_in_hands_of(caller) || place.is_drawn_by(caller),
             Call::DropRun(_) => place.is_run_by(caller),
-            Call::Retire(_) => place.is_in_hands_of(caller) || place.is_run_by(caller),
+            Call::Retire(_) => {
+                place.is_in_hands_of(caller)
+                    || (place.is_drawn_by(caller) || place.is_run_by(caller))
+            }
         }
     }
 
@@ -173,7 +182,7 @@ impl Machine {
         ensures { IsReply self.now caller call.now result }
     {
         match *call {
-            Call::Post(..) => Reply::Done,
+            Call::Post(..) | Call::Draw(_) => Reply::Done,
             Call::Get(group) => Reply::Group(self.box_group(caller.0, group)),
             Call::Wake(id, _)
             | Call::Kill(id)
@@ -208,6 +217,7 @@ fn change_task(task: &mut TaskState, caller: CallerId, call: &Call)
         Call::Kill(_) => task.kill(caller),
         Call::Post(_, boxno) => task.post(boxno),
         Call::Get(_) => task.get(caller),
+        Call::Draw(_) => task.draw(caller),
         Call::Take(_) => task.take(caller),
         Call::DropRun(_) => task.drop_run(caller),
         Call::Retire(_) => task.retire(),

@@ -1,24 +1,26 @@
 //! The state of one task, and what a call sees of it.
 
 ghost use Rattle.std.specs.Prelude.{◌≡◌, ◌<◌, ◌-◌, ◌^◌};
-ghost use Rattle.task_machine.specs.Task.{is_busy, in_hands, in_run, is_boxed, seen_of, woken, flagged, got, taken, dropped, put, gone, resting, raised};
+ghost use Rattle.task_machine.specs.Task.{is_busy, in_hands, in_draw, in_run, is_boxed, seen_of, woken, flagged, got, taken, dropped, put, gone, resting, raised};
 ghost use Rattle.task_machine.specs.Step.{HasRoom};
 ghost use Rattle.task_machine.specs.declared.task.Place.TheVariants as places;
 
 use sched_base::{CallerId, Reasons};
 
 /// Where a task is: at rest, in a caller's hands, in the box of a worker (or the shared box, whose
-/// number is that of workers), run by a caller, or gone for good.
+/// number is that of workers), drawn from the shared box by a caller, run by a caller, or gone for
+/// good.
 #[derive(Clone, Copy, Debug, PartialEq, Eq)]
 pub enum Place {
     Rest,
     Hands(CallerId),
     Boxed(u32),
+    Drawn(CallerId),
     Runs(CallerId),
     Gone,
 }
 
-/// What a call can tell of a place: queued stands for in hands and for boxed.
+/// What a call can tell of a place: queued stands for in hands, for boxed and for drawn.
 #[derive(Clone, Copy, Debug, PartialEq, Eq)]
 pub enum Stand {
     Rest,
@@ -55,6 +57,16 @@ impl Place {
     {
         match self {
             Place::Hands(holder) => caller == holder,
+            _ => false,
+        }
+    }
+
+    /// Whether this caller has drawn the task.
+    pub(crate) fn is_drawn_by(self, caller: CallerId) -> bool
+        ensures { result ≡ in_draw caller self }
+    {
+        match self {
+            Place::Drawn(drawer) => caller == drawer,
             _ => false,
         }
     }
@@ -121,7 +133,7 @@ impl TaskState {
         let stand = match self.place {
             Place::Gone => return Seen::Gone,
             Place::Rest => Stand::Rest,
-            Place::Hands(_) | Place::Boxed(_) => Stand::Queued,
+            Place::Hands(_) | Place::Boxed(_) | Place::Drawn(_) => Stand::Queued,
             Place::Runs(_) => Stand::Runs,
         };
         Seen::Live {
@@ -166,6 +178,13 @@ impl TaskState {
         if self.place.is_in_box(caller.0) {
             self.place = Place::Hands(caller);
         }
+    }
+
+    /// Takes the task out of the shared box, for the caller to take it next.
+    pub(crate) fn draw(&mut self, caller: CallerId)
+        ensures { self.new ≡ put (places.Drawn caller) self.old }
+    {
+        self.place = Place::Drawn(caller);
     }
 
     /// Begins a run by the caller: what was pending is taken.

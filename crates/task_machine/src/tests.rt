@@ -98,6 +98,36 @@ fn a_wake_in_a_run_leaves_the_duty_with_the_runner(rt: HostRuntime) -> Result<()
 }
 
 #[test]
+fn a_drawn_task_is_taken_by_its_drawer(rt: HostRuntime) -> Result<(), Fail> {
+    let shared = [
+        by(
+            0,
+            Call::Wake(TASK, Reasons::MSG),
+            saw(Stand::Rest, Reasons::EMPTY, false, 0),
+        ),
+        by(0, Call::Post(TASK, 1), Reply::Done),
+        by(0, Call::Get(0), Reply::Group(0)),
+        by(0, Call::Draw(TASK), Reply::Done),
+        by(0, Call::Get(0), Reply::Group(0)),
+        by(
+            0,
+            Call::Take(TASK),
+            saw(Stand::Queued, Reasons::MSG, false, 0),
+        ),
+    ];
+    assert_eq!(rt; played(rt.alloc(), false, &shared)?, None);
+    let foreign = [by(1, Call::Take(TASK), Reply::Done)];
+    let mut drawn = Vec::new(rt.alloc());
+    drawn.extend_from_slice(&shared[..4])?;
+    drawn.extend_from_slice(&foreign)?;
+    assert_eq!(rt;
+        played(rt.alloc(), false, &drawn)?,
+        Some(NotLegal::Place(Place::Drawn(CallerId(0))))
+    );
+    Ok(())
+}
+
+#[test]
 fn a_killed_task_is_retired_by_its_runner(rt: HostRuntime) -> Result<(), Fail> {
     let rest = [
         by(
