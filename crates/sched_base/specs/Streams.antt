@@ -48,9 +48,9 @@ pub record MemoryOut : Type 0 where
   pub calls : ℕ
   pub faults : ℕ
 
--- whether a call's number is listed
-abbrev pub is_listed : List ℕ → ℕ → Bool
-is_listed fails n = list_any (λ m. nat_eq m n) fails
+-- whether the call of this number is one that fails
+abbrev pub is_failing : List ℕ → ℕ → Bool
+is_failing fails n = list_any (λ m. nat_eq m n) fails
 
 -- a source after a call that failed
 abbrev pub failed_in : MemoryIn → MemoryIn

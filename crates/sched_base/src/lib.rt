@@ -11,6 +11,8 @@ mod names;
 mod plain_lists;
 mod reason_set;
 mod standard;
+#[cfg(test)]
+mod standard_tests;
 mod steps;
 mod streams;
 #[cfg(test)]

@@ -1,7 +1,7 @@
 //! A source in memory that fails where it is told to.
 
 ghost use Rattle.std.specs.Prelude.{◌≡◌, ◌<◌, ◌≤◌, length, take, min, IfOk, OnErr, Some, MatchResult, is_err};
-ghost use Rattle.sched_base.specs.Streams.{IsAtEnd, Reads, Rose, is_listed, failed_in, gave};
+ghost use Rattle.sched_base.specs.Streams.{IsAtEnd, Reads, Rose, is_failing, failed_in, gave};
 
 use crate::streams::{Failed, Source};
 use std::marker::Model;
@@ -79,7 +79,7 @@ impl Source for MemSource {
         ensures kept { OnErr result (Some self.new.left ≡ Some self.old.left) }
         ensures counted { self.old.faults ≤ self.new.faults }
         // It fails exactly where the call's number is listed, and gives as many bytes as it can.
-        ensures cause { is_listed self.old.fails self.old.calls ≡ is_err result }
+        ensures cause { is_failing self.old.fails self.old.calls ≡ is_err result }
         ensures after { MatchResult result (λ n. self.new ≡ gave self.old n) (λ _. self.new ≡ failed_in self.old) }
         ensures amount { IfOk result (λ n. n ≡ min (min (length buf.old) self.old.piece) (length self.old.left)) }
     {

@@ -1,7 +1,7 @@
 //! A sink in memory that fails where it is told to.
 
 ghost use Rattle.std.specs.Prelude.{◌≡◌, ◌-◌, ◌<◌, ◌≤◌, [], ◌||◌, length, take, min, nat_le, IfOk, OnErr, Some, MatchResult, is_err};
-ghost use Rattle.sched_base.specs.Streams.{Appends, Rose, is_listed, failed_out, took};
+ghost use Rattle.sched_base.specs.Streams.{Appends, Rose, is_failing, failed_out, took};
 
 use crate::streams::{Failed, Sink};
 use std::alloc::{AllocError, Global};
@@ -84,7 +84,7 @@ impl Sink for MemSink {
         ensures counted { self.old.faults ≤ self.new.faults }
         // It fails exactly where the call's number is listed or the room is full, and else takes
         // as many bytes as it can.
-        ensures cause { (is_listed self.old.fails self.old.calls || nat_le self.old.room (length self.old.held)) ≡ is_err result }
+        ensures cause { (is_failing self.old.fails self.old.calls || nat_le self.old.room (length self.old.held)) ≡ is_err result }
         ensures after { MatchResult result (λ n. self.new ≡ took self.old (take n piece.now)) (λ _. self.new ≡ failed_out self.old) }
         ensures amount { IfOk result (λ n. n ≡ min (min (length piece.now) self.old.piece) (self.old.room - length self.old.held)) }
     {

@@ -1,7 +1,8 @@
 //! Why a task is to run.
 
-ghost use Rattle.std.specs.Prelude.{◌≡◌, ℕ, ◌<◌, ◌==◌, bit_and, bit_or, SomeIff};
+ghost use Rattle.std.specs.Prelude.{◌≡◌, ℕ, ◌<◌, ◌==◌, [], ◌∷◌, bit_and, bit_or};
 ghost use Rattle.std.specs.Option.{SomeIff};
+ghost use Rattle.sched_base.specs.ReasonNames.{init, timer, io, signal, msg, res, other};
 
 use std::marker::Model;
 
@@ -43,6 +44,21 @@ impl Reasons {
     pub const RES: Reasons = Reasons { bits: 32 };
 
     pub const OTHER: Reasons = Reasons { bits: 64 };
+
+    /// The sets of one reason, in the order of their names.
+    pub fn each() -> [Reasons; 7]
+        ensures { result ≡ init ∷ timer ∷ io ∷ signal ∷ msg ∷ res ∷ other ∷ [] }
+    {
+        [
+            Reasons::INIT,
+            Reasons::TIMER,
+            Reasons::IO,
+            Reasons::SIGNAL,
+            Reasons::MSG,
+            Reasons::RES,
+            Reasons::OTHER,
+        ]
+    }
 
     /// The set with these bits; none where bit 7 is set.
     pub fn from_bits(bits: u8) -> Option<Reasons>
