@@ -1,6 +1,7 @@
 -- The reasons since a task's previous take (docs/MODEL.md, "Reasons since").
 use Rattle.std.specs.Prelude.{◌≡◌, ℕ, Bool, true, false, ◌==◌, if◌then◌else◌, bit_or, List, [], ◌∷◌, ◌++◌}
 use Rattle.std.specs.List.{list_any}
+use Rattle.sched_base.specs.ReasonNames.{init}
 use Rattle.task_machine.specs.declared.task.Seen.{Seen}
 use Rattle.task_machine.specs.declared.task.Seen.TheVariants as views
 use Rattle.task_machine.specs.declared.task.TaskState.{TaskState}
@@ -47,7 +48,7 @@ since_take i (e ∷ es) = if has_take i es then since_take i es else (if is_take
 
 -- the reasons with which the opening seats a task, if it is to be run at the start
 abbrev pub first_reasons : Bool → ℕ
-first_reasons true = 1
+first_reasons true = init
 first_reasons false = 0
 
 -- the union of the reasons of all wakes of task i in the past after its last take, or after the

@@ -1,6 +1,7 @@
 -- The state of one task, and what a call makes of it (docs/MODEL.md, "Task state" and "Machine step").
 use Rattle.std.specs.Prelude.{◌≡◌, ℕ, ◌+◌, Bool, true, false, not, ◌||◌, ◌==◌, if◌then◌else◌, bit_or}
 use Rattle.sched_base.specs.declared.names.CallerId.{CallerId}
+use Rattle.sched_base.specs.ReasonNames.{init}
 use Rattle.task_machine.specs.declared.task.Place.{Place}
 use Rattle.task_machine.specs.declared.task.Place.TheVariants as places
 use Rattle.task_machine.specs.declared.task.Stand.{Stand}
@@ -95,7 +96,7 @@ dropped k t = put (if is_busy t then places.Hands k else places.Rest) t
 
 -- a task that the opening puts into box b, to be run for the first time
 abbrev pub seated : ℕ → TaskState → TaskState
-seated b t = record t { place = places.Boxed b; pending = 1 }
+seated b t = record t { place = places.Boxed b; pending = init }
 
 -- what a place asks of its task: nothing to run for at rest, something while it is queued
 abbrev pub ValidAt : Place → TaskState → Type 0
