@@ -1,11 +1,11 @@
 -- In which root's list an entry stands.
-use Rattle.std.proofs.Common.{◌≡◌, ℕ, ◌+◌, ◌<◌, inl, inr, Bool, true, false, eqb, List, [], ◌∷◌, ◌++◌, length, refl, sym, ap, ◌∙◌, subst, arith, eq-eqb, eqb-true}
+use Rattle.std.proofs.Common.{◌≡◌, ℕ, ◌+◌, ◌<◌, inl, inr, Bool, true, false, eqb, List, [], ◌∷◌, ◌++◌, length, refl, sym, ap, ◌∙◌, subst, arith, eq-eqb, eqb-true, append_assoc, length-append}
 use Rattle.std.specs.Prelude.{◌||◌, Option, Some, None, IsSomeAnd, slice_index, nat_le}
 use Rattle.std.specs.List.{filter, list_any}
 use Rattle.std.specs.Option.{is_some}
 use Rattle.std.proofs.lemmas.Bool.{cases_Bool, or_parts, false≢true}
 use Rattle.std.proofs.lemmas.List.Folds.{list_any-append}
-use Rattle.sched_base.specs.KeyedList.{KeyedItem, KeyedList, KeyedRoots, root_at, is_entry, holds, first_entry, next_entry, entry_from, key_of_entry, StandsIn, IsPlaced, IsFree}
+use Rattle.sched_base.specs.KeyedList.{KeyedItem, KeyedList, KeyedRoots, root_at, is_entry, holds, first_entry, next_entry, entry_from, key_of_entry, AreKeyed, IsKeyed, IsOnce, StandsIn, IsPlaced, IsFree}
 use Rattle.eb_arena.specs.declared.links.Place.{Place}
 use Rattle.eb_arena.specs.declared.links.Place.TheVariants as places
 use Rattle.eb_arena.specs.Links.{is_nowhere}
@@ -13,6 +13,7 @@ use Rattle.eb_arena.specs.Parts.{Parts, element_at}
 use Rattle.eb_arena.specs.Shape.{Tree, tip, fork, items, HasLeaf, IsRoot, HasShape, InSome, list_of}
 use Rattle.eb_arena.specs.Laws.{OnePosition}
 use Rattle.eb_arena.proofs.Reading.{list_of_is}
+use Rattle.eb_arena.proofs.Rising.{ordered}
 use Rattle.eb_arena.proofs.Ways.{LeafWay, leaf_way}
 use Rattle.eb_arena.proofs.Unique.{parts_hang, stand_once}
 use Rattle.eb32_walk.specs.Ends.{IsIn, AtEntry}
@@ -226,3 +227,34 @@ pub in_placed : (f : Grove) (e : ℕ) → Stood f → IsIn f.parts e → IsPlace
 in_placed f e s h =
     let x : InSome f.parts s.shape.0 (HasLeaf e) = s.shape.1.leaves e h.0 h.1 in
     (x.0, stands f x.0 e s x.1.0 (some_held f.parts x.0 e (s.shape.0 x.0) (s.shape.1.roots x.0 x.1.0) x.1.1))
+
+-- ---- the keyed lists of a forest
+
+-- an entry that a list has at one position stands there once
+once_behind : (whole pre xs : List KeyedItem) → whole ≡ pre ++ xs → ((e k m : ℕ) (us vs ps qs : List KeyedItem) → whole ≡ us ++ record { key = k; entry = e } ∷ vs → whole ≡ ps ++ record { key = m; entry = e } ∷ qs → us ≡ ps) → IsOnce xs
+once_behind whole pre [] is one = tt
+once_behind whole pre (x ∷ xs) is one =
+    let step : pre ++ x ∷ xs ≡ (pre ++ x ∷ []) ++ xs = sym (append_assoc pre (x ∷ []) xs) in
+    let rest : IsOnce xs = once_behind whole (pre ++ x ∷ []) xs (is ∙ step) one in
+    elim (cases_Bool (list_any (is_entry x.entry) xs)) [
+      | inl k ↦
+          let p : Position x.entry xs = position_of x.entry xs k in
+          let again : whole ≡ (pre ++ x ∷ p.front) ++ record { key = p.key; entry = x.entry } ∷ p.back = is ∙ ap (λ (ys : List KeyedItem). pre ++ x ∷ ys) p.list_is ∙ sym (append_assoc pre (x ∷ p.front) (record { key = p.key; entry = x.entry } ∷ p.back)) in
+          let front : pre ≡ pre ++ x ∷ p.front = one x.entry x.key p.key pre xs (pre ++ x ∷ p.front) p.back is again in
+          let long : length pre ≡ length (pre ++ x ∷ p.front) = ap length front in
+          absurd (omega (arith, long, length-append pre (x ∷ p.front)))
+      | inr k ↦ (k, rest)
+    ]
+
+-- a forest's lists are keyed
+pub forest_keyed : (f : Grove) → Stood f → AreKeyed (seen_of f)
+forest_keyed f s = record {
+  keyed = λ q g.
+      let x : q < length f.parts.links = root_fits f q s g in
+      let items : (root_at q (seen_of f)).items ≡ list_of f.parts q = items_are f q s x in
+      let one : (e k m : ℕ) (us vs ps qs : List KeyedItem) → list_of f.parts q ≡ us ++ record { key = k; entry = e } ∷ vs → list_of f.parts q ≡ ps ++ record { key = m; entry = e } ∷ qs → us ≡ ps = λ e k m us vs ps qs h g.
+      let o : OnePosition q q k m us vs ps qs = stand_once f.parts q q e k m us vs ps qs s.shape x x h g in
+      o.front in
+      record { rising = rw items (ordered f.parts q s.shape x); once = rw items (once_behind (list_of f.parts q) [] (list_of f.parts q) refl one) };
+  one = λ e q r h g. one_root f q r e s (stood f q e s h) (stood f r e s g);
+}

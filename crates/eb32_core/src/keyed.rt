@@ -40,6 +40,10 @@ fn take_out<L: Ledger>(forest: &mut Forest, entry: u32, blank: Blank)
 impl KeyedLists for Forest {
     ghost seen = { seen_of };
 
+    fn stay_keyed(&self) {
+        let _arena = self.arena();
+    }
+
     fn insert(&mut self, root: u32, entry: u32, key: u32) {
         let roots = self.arena().roots();
         prove!(root < roots);

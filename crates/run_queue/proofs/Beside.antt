@@ -16,8 +16,6 @@ stays_beside q lists new other f c ne none =
       record {
         exists = rw long f.exists;
         depth = f.depth;
-        rising = rw same f.rising;
-        once = rw same f.once;
         runners = rw (same, entries) f.runners;
         fresh = rw order f.fresh;
         waiting = rw order f.waiting;

@@ -7,8 +7,9 @@ use Rattle.std.proofs.lemmas.Int.{ints}
 use Rattle.std.proofs.lemmas.Bool.{cases_Bool, cases_eq, false≢true, or_parts, eqb-true, eqb-false, eq-eqb, ne_eqb, not_from_false}
 use Rattle.std.proofs.lemmas.List.{get_or-set_same, get_or-set_other, length-set, length-map}
 use Rattle.std.proofs.lemmas.Map.Steps.{length-le_from_distinct_below}
-use Rattle.sched_base.specs.KeyedList.{KeyedItem, KeyedList, KeyedRoots, root_at, with_root, with_entry, without_entry, inserted_into, deleted_from, inserted, is_entry, holds, first_entry, StandsIn, IsFree, ChangesRoot, IsOnce, blank}
+use Rattle.sched_base.specs.KeyedList.{KeyedItem, KeyedList, KeyedRoots, AreKeyed, IsKeyed, root_at, with_root, with_entry, without_entry, inserted_into, deleted_from, inserted, is_entry, holds, first_entry, StandsIn, IsFree, ChangesRoot, IsOnce, blank}
 use Rattle.sched_base.proofs.Inserted.{map-inserted, all-inserted, all-filter, all-weaker, all-both, rising-inserted, rising-filter, filter-all}
+use Rattle.sched_base.proofs.Keyed.{at_root, at_other}
 use Rattle.sched_base.proofs.Once.{In, in_all, all_in, in_held, item_of_held, once-inserted, once-filter, none_held, held_none}
 use Rattle.queue_model.specs.Ticks.{distance}
 use Rattle.queue_model.specs.RunList.{RunItem, RunList, arrived, without_least, is_listed}
@@ -20,17 +21,11 @@ use Rattle.run_queue.proofs.Keys.{int_le_plus, distance_next, not_half, walk_nex
 
 -- ---- one root that changes
 
-pub same_root : (r : ℕ) (l : KeyedList) (s : KeyedRoots) → r < length s.roots → root_at r (with_root r l s) ≡ l
-same_root r l s lt = get_or-set_same s.roots r l blank lt
-
-pub other_root : (r other : ℕ) (l : KeyedList) (s : KeyedRoots) → (other ≡ r → ⊥) → root_at other (with_root r l s) ≡ root_at other s
-other_root r other l s ne = get_or-set_other s.roots r other l blank ne
-
 pub changes_root : (r : ℕ) (l : KeyedList) (s : KeyedRoots) → ChangesRoot r s (with_root r l s)
 changes_root r l s = record {
   roots = length-set s.roots r l;
   entries = refl;
-  others = λ other ne. other_root r other l s ne;
+  others = λ other ne. at_other r other l s ne;
 }
 
 -- ---- how many items there are
@@ -102,7 +97,7 @@ same_run count (x ∷ xs) h =
 abbrev pub raised : Runners → Runners
 raised q = record q { count = q.count + 1; waiting = q.waiting + 1 }
 
-module _ (q : Runners) (s : KeyedRoots) (f : Fits q s) (few : s.entries ≤ 2 ^ 20) (i key : ℕ) (nice : ℤ) (exists : entry_of i < s.entries) (absent : is_listed i (run_list q s) ≡ false) (tick : key < 2 ^ 32) (at_nice : distance key (now_of (q.count + 1)) ≡ nice *ℤ pos q.depth) (close : IsClose q.depth (now_of (q.count + 1)) key) where
+module _ (q : Runners) (s : KeyedRoots) (f : Fits q s) (keyed : AreKeyed s) (few : s.entries ≤ 2 ^ 20) (i key : ℕ) (nice : ℤ) (exists : entry_of i < s.entries) (absent : is_listed i (run_list q s) ≡ false) (tick : key < 2 ^ 32) (at_nice : distance key (now_of (q.count + 1)) ≡ nice *ℤ pos q.depth) (close : IsClose q.depth (now_of (q.count + 1)) key) where
   abbrev pub now : ℕ
   now = now_of q.count
 
@@ -117,7 +112,7 @@ module _ (q : Runners) (s : KeyedRoots) (f : Fits q s) (few : s.entries ≤ 2 ^ 
 
   pub few_waiting : length (in_order q s) ≤ 2 ^ 20
   few_waiting =
-      let l : length (in_order q s) ≤ s.entries = few_items s.entries (in_order q s) (all-walked (IsRunner s.entries) now items f.runners) (once_walked now items f.once) in
+      let l : length (in_order q s) ≤ s.entries = few_items s.entries (in_order q s) (all-walked (IsRunner s.entries) now items f.runners) (once_walked now items (keyed.keyed q.root f.exists).once) in
       omega arith
 
   pub near_walk : AllByRecursion (λ (y : KeyedItem). (y.key < 2 ^ 32) × (negsuc (2 ^ 22) ≤ℤ distance y.key now)) (in_order q s)
@@ -147,12 +142,12 @@ module _ (q : Runners) (s : KeyedRoots) (f : Fits q s) (few : s.entries ≤ 2 ^ 
   nearer y = int_le (distance y.key next) (distance key next)
 
   pub root_is : root_at q.root after ≡ with_entry key (entry_of i) (root_at q.root s)
-  root_is = same_root q.root _ s f.exists
+  root_is = at_root q.root _ s f.exists
 
   pub order_after : in_order (raised q) after ≡ inserted nearer item (in_order q s)
   order_after =
       ap (λ (l : KeyedList). walked next l.items) root_is
-      ∙ walked-inserted next key item items (omega arith) tick refl (ticks_of _ items f.runners) f.rising
+      ∙ walked-inserted next key item items (omega arith) tick refl (ticks_of _ items f.runners) (keyed.keyed q.root f.exists).rising
       ∙ ap (inserted nearer item) same_walk
 
   pub arrives : run_list (raised q) after ≡ arrived q.depth i nice (run_list q s)
@@ -171,19 +166,16 @@ module _ (q : Runners) (s : KeyedRoots) (f : Fits q s) (few : s.entries ≤ 2 ^ 
   pub fits_after : Fits (raised q) after
   fits_after =
       let by_key : KeyedItem → Bool = λ y. leb y.key key in
-      let free : holds (entry_of i) (root_at q.root s) ≡ false = not_held i q s absent in
       let long : length after.roots ≡ length s.roots = length-set s.roots q.root _ in
       let half : entry_of i / 2 ≡ i = omega arith in
-      let ordered : IsByDistance next (in_order q s) = subst (λ (ys : List KeyedItem). IsByDistance next ys) same_walk (walked_by_distance next items (omega arith) (ticks_of _ items f.runners) f.rising) in
+      let ordered : IsByDistance next (in_order q s) = subst (λ (ys : List KeyedItem). IsByDistance next ys) same_walk (walked_by_distance next items (omega arith) (ticks_of _ items f.runners) (keyed.keyed q.root f.exists).rising) in
       record {
         exists = rw long f.exists;
         depth = f.depth;
-        rising = rw root_is (rising-inserted key item items refl f.rising);
-        once = rw root_is (once-inserted by_key item items free f.once);
         runners = rw root_is (all-inserted (IsRunner s.entries) by_key item items (record { entry = omega arith; exists = exists; key = tick }) f.runners);
         fresh = rw order_after (fresh_inserted q.depth now next key item (in_order q s) refl close f.fresh shifts ordered);
         waiting = rw order_after (length-inserted nearer item (in_order q s) ∙ ap (λ n. n + 1) f.waiting);
-        apart = λ other task within ne. rw (other_root q.root other _ s ne) (f.apart other task (rw long at within) ne);
+        apart = λ other task within ne. rw (at_other q.root other _ s ne) (f.apart other task (rw long at within) ne);
       }
 
 -- ---- a pick
@@ -192,7 +184,7 @@ module _ (q : Runners) (s : KeyedRoots) (f : Fits q s) (few : s.entries ≤ 2 ^ 
 abbrev pub lowered : Runners → Runners
 lowered q = record q { waiting = q.waiting - 1 }
 
-module _ (q : Runners) (s : KeyedRoots) (f : Fits q s) (entry : ℕ) (h : Some entry ≡ first_entry (in_order q s)) where
+module _ (q : Runners) (s : KeyedRoots) (f : Fits q s) (keyed : AreKeyed s) (entry : ℕ) (h : Some entry ≡ first_entry (in_order q s)) where
   abbrev pub picked : (y : KeyedItem) × (ys : List KeyedItem) × (in_order q s ≡ y ∷ ys) × (y.entry ≡ entry)
   picked = first_is (in_order q s) entry (sym h)
 
@@ -208,14 +200,14 @@ module _ (q : Runners) (s : KeyedRoots) (f : Fits q s) (entry : ℕ) (h : Some e
   pub rest_is : filter (λ (y : KeyedItem). not (is_entry entry y)) (in_order q s) ≡ picked.1
   rest_is =
       let keeps : KeyedItem → Bool = λ y. not (is_entry entry y) in
-      let once : IsOnce (picked.0 ∷ picked.1) = subst (λ (zs : List KeyedItem). IsOnce zs) picked.2 (once_walked (now_of q.count) (root_at q.root s).items f.once) in
+      let once : IsOnce (picked.0 ∷ picked.1) = subst (λ (zs : List KeyedItem). IsOnce zs) picked.2 (once_walked (now_of q.count) (root_at q.root s).items (keyed.keyed q.root f.exists).once) in
       let alone : list_any (is_entry entry) picked.1 ≡ false = ap (λ e. list_any (is_entry e) picked.1) (sym picked.3) ∙ once.0 in
       ap (filter keeps) picked.2
       ∙ rw (eq-eqb picked.0.entry entry picked.3) (filter-all keeps picked.1 (all-weaker (λ (y : KeyedItem). is_entry entry y ≡ false) (λ (y : KeyedItem). keeps y ≡ true) picked.1 (λ y k. not_from_false _ k) (none_held (is_entry entry) picked.1 alone)))
 
   module _ (after : KeyedRoots) (out : after ≡ deleted_from q.root entry s) where
     pub root_out : root_at q.root after ≡ without_entry entry (root_at q.root s)
-    root_out = ap (λ (u : KeyedRoots). root_at q.root u) out ∙ same_root q.root _ s f.exists
+    root_out = ap (λ (u : KeyedRoots). root_at q.root u) out ∙ at_root q.root _ s f.exists
 
     pub order_out : in_order (lowered q) after ≡ picked.1
     order_out = ap (λ (l : KeyedList). walked (now_of q.count) l.items) root_out ∙ walked-filter (now_of q.count) (λ (y : KeyedItem). not (is_entry entry y)) (root_at q.root s).items ∙ rest_is
@@ -244,8 +236,6 @@ module _ (q : Runners) (s : KeyedRoots) (f : Fits q s) (entry : ℕ) (h : Some e
         record {
           exists = rw long f.exists;
           depth = f.depth;
-          rising = rw root_out (rising-filter keeps (root_at q.root s).items f.rising);
-          once = rw root_out (once-filter keeps (root_at q.root s).items f.once);
           runners = rw (root_out, changes_out.entries) (all-filter (IsRunner s.entries) keeps (root_at q.root s).items f.runners);
           fresh = rw order_out fresh.2;
           waiting = rw order_out (omega arith);

@@ -1,7 +1,7 @@
 -- What a run queue over lent keyed lists means, and when it fits them (docs/TIMERS.md, "Run queues").
 use Rattle.std.specs.Prelude.{◌≡◌, ℕ, ◌+◌, ◌*◌, ◌/◌, ◌%◌, ◌^◌, ◌<◌, ◌≤◌, ℤ, pos, ◌+ℤ◌, ◌≤ℤ◌, false, List, [], ◌∷◌, Option, None, Some, map, length}
 use Rattle.std.specs.List.{AllByRecursion}
-use Rattle.sched_base.specs.KeyedList.{KeyedItem, KeyedRoots, root_at, holds, IsRising, IsOnce}
+use Rattle.sched_base.specs.KeyedList.{KeyedItem, KeyedRoots, root_at, holds}
 use Rattle.queue_model.specs.Ticks.{distance}
 use Rattle.queue_model.specs.RunList.{RunItem, RunList}
 use Rattle.queue_model.specs.Walk.{walked}
@@ -57,8 +57,6 @@ IsFresh depth now (y ∷ ys) = (pos 0 ≤ℤ (distance y.key now +ℤ pos (1024 
 pub record Fits (q : Runners) (lists : KeyedRoots) : Type 0 where
   pub exists : q.root < length lists.roots
   pub depth : q.depth ≤ 1000
-  pub rising : IsRising (root_at q.root lists).items
-  pub once : IsOnce (root_at q.root lists).items
   pub runners : AllByRecursion (IsRunner lists.entries) (root_at q.root lists).items
   pub fresh : IsFresh q.depth (now_of q.count) (in_order q lists)
   pub waiting : length (in_order q lists) ≡ q.waiting

@@ -122,6 +122,7 @@ impl RunQueue {
         ensures insertions { (root_at self.old.root (K.seen lists.new)).insertions ≡ (root_at self.old.root (K.seen lists.old)).insertions + 1 }
         ensures queue { self.new ≡ record self.old { count = self.old.count + 1; waiting = self.old.waiting + 1 } }
     {
+        lists.stay_keyed();
         self.count += 1;
         let key = stored_key(self.count, self.depth, nice);
         lists.insert(self.root, 2 * id.0 + 1, key);
@@ -139,6 +140,7 @@ impl RunQueue {
         ensures insertions { (root_at self.old.root (K.seen lists.new)).insertions ≡ (root_at self.old.root (K.seen lists.old)).insertions }
         ensures queue { self.new ≡ record self.old { waiting = self.new.waiting } }
     {
+        lists.stay_keyed();
         let Some(entry) = self.first_walked(lists) else {
             return None;
         };

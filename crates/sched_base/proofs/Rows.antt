@@ -2,13 +2,14 @@
 use Rattle.std.proofs.Common.{◌≡◌, ℕ, zero, suc, ◌+◌, ◌<◌, ◌≤◌, inl, inr, Bool, true, false, not, ◌&&◌, eqb, ltb, leb, List, [], ◌∷◌, Option, Some, None, length, get_or, set, drop, map, replicate, refl, sym, ap, ◌∙◌, arith}
 use Rattle.std.specs.List.{filter, insert, IsDistinct, remove, position, find, list_any, AllByRecursion, position_or_len}
 use Rattle.std.specs.Option.{option_map, IfSome, unwrap_or}
-use Rattle.std.proofs.lemmas.Bool.{cases_Bool, or_parts, cases_lt, false≢true, lt-ltb, le-ltb, le-leb, lt-leb, eqb-true, eqb-false, eq-eqb, ne_eqb}
+use Rattle.std.proofs.lemmas.Bool.{cases_Bool, or_parts, cases_eq, cases_lt, false≢true, lt-ltb, le-ltb, le-leb, lt-leb, eqb-true, eqb-false, eq-eqb, ne_eqb}
 use Rattle.std.proofs.Math.Numerals.{one-add}
 use Rattle.std.proofs.lemmas.List.{set-get_or, length-map}
 use Rattle.std.proofs.lemmas.Map.Steps.{length-le_from_distinct_below}
 use Rattle.sched_base.specs.declared.plain_lists.Row.{Row}
-use Rattle.sched_base.specs.KeyedList.{KeyedItem, KeyedList, inserted, is_entry, first_entry, next_entry, entry_from, key_of_entry, blank, KeyedRoots, root_at, StandsIn, IsPlaced, IsFree, with_root, with_entry, without_entry, inserted_into, deleted_from}
+use Rattle.sched_base.specs.KeyedList.{KeyedItem, KeyedList, AreKeyed, IsKeyed, IsOnce, IsRising, inserted, is_entry, first_entry, next_entry, entry_from, key_of_entry, blank, KeyedRoots, root_at, StandsIn, IsPlaced, IsFree, with_root, with_entry, without_entry, inserted_into, deleted_from}
 use Rattle.sched_base.specs.PlainRows.{items_of, lists_from, has_row, AreApart, AreSound, IsWithin}
+use Rattle.sched_base.proofs.Inserted.{rising-inserted, rising-filter}
 
 -- the first row of a root is the first item of its list
 pub first_of_root : (root : ℕ) (rows : List Row) → option_map (λ (y : Row). y.entry) (find (λ (y : Row). eqb y.root root) rows) ≡ first_entry (items_of root rows)
@@ -262,15 +263,19 @@ place_of_found p (x ∷ xs) y h =
 pub position_of_found : {X : Type 0} → (p : X → Bool) (xs : List X) (y : X) → find p xs ≡ Some y → position p xs ≡ Some (position_or_len p xs)
 position_of_found p xs y h = rw (lt-ltb _ _ (place_of_found p xs y h)) refl
 
+-- the row of an entry has one root
+pub one_root : (rows : List Row) (entry root other : ℕ) → AreApart rows → list_any (is_entry entry) (items_of root rows) ≡ true → list_any (is_entry entry) (items_of other rows) ≡ true → root ≡ other
+one_root rows entry root other apart h k =
+    let v = row_of_held entry root rows apart h in
+    let w = row_of_held entry other rows apart k in
+    let same : v.0 ≡ w.0 = let e : Some v.0 ≡ Some w.0 = sym v.1 ∙ w.1 in cc in
+    sym v.2 ∙ ap (λ (y : Row). y.root) same ∙ w.2
+
 -- an entry of one root's list is in no other
 pub not_elsewhere : (rows : List Row) (entry root other : ℕ) → AreApart rows → list_any (is_entry entry) (items_of root rows) ≡ true → (other ≡ root → ⊥) → filter (λ (y : KeyedItem). not (is_entry entry y)) (items_of other rows) ≡ items_of other rows
 not_elsewhere rows entry root other apart held ne =
     elim (cases_Bool (list_any (is_entry entry) (items_of other rows))) [
-      | inl h ↦
-          let v = row_of_held entry root rows apart held in
-          let w = row_of_held entry other rows apart h in
-          let same : v.0 ≡ w.0 = let e : Some v.0 ≡ Some w.0 = sym v.1 ∙ w.1 in cc in
-          absurd (ne (sym w.2 ∙ ap (λ (y : Row). y.root) (sym same) ∙ v.2))
+      | inl h ↦ absurd (ne (one_root rows entry other root apart h held))
       | inr h ↦ filter_without entry (items_of other rows) h
     ]
 
@@ -362,12 +367,22 @@ free_rows rows ns entries s is entry sound free =
     let within : root < length s.roots = omega (arith, roots_of rows ns entries s is) in
     rw (items_at rows ns entries s is root within) at (free root within))
 
-pub sound-insert : (roots entries place : ℕ) (x : Row) (p : Row → Bool) (rows : List Row) → place ≡ position_or_len p rows → AreSound roots entries rows → has_row x.entry rows ≡ false → x.root < roots → x.entry < entries → AreSound roots entries (insert rows place x)
-sound-insert roots entries place x p rows at_place sound free r e =
-    let as_inserted : insert rows place x ≡ inserted (λ (y : Row). not (p y)) x rows = ap (λ i. insert rows i x) at_place ∙ insert_at p x rows in
+-- keys still never fall along a root's rows
+pub rising_rows-inserted : (root entry key : ℕ) (rows : List Row) → ((r : ℕ) → IsRising (items_of r rows)) → (r : ℕ) → IsRising (items_of r (inserted (stays root key) (record { root = root; key = key; entry = entry }) rows))
+rising_rows-inserted root entry key rows rising r =
+    elim (cases_eq r root) [
+      | inl e ↦ rw (e, items_of-inserted root entry key rows) (rising-inserted key (record { key = key; entry = entry }) (items_of root rows) refl (rising root))
+      | inr ne ↦ rw (items_of-inserted_other (stays root key) (record { root = root; key = key; entry = entry }) r rows ne) (rising r)
+    ]
+
+pub sound-insert : (roots entries place root entry key : ℕ) (rows : List Row) → place ≡ position_or_len (λ (y : Row). eqb y.root root && ltb key y.key) rows → AreSound roots entries rows → has_row entry rows ≡ false → root < roots → entry < entries → AreSound roots entries (insert rows place (record { root = root; key = key; entry = entry }))
+sound-insert roots entries place root entry key rows at_place sound free r e =
+    let x : Row = record { root = root; key = key; entry = entry } in
+    let as_inserted : insert rows place x ≡ inserted (stays root key) x rows = ap (λ i. insert rows i x) at_place ∙ insert_at (λ (y : Row). eqb y.root root && ltb key y.key) x rows in
     rw as_inserted (record {
-      apart = apart-inserted _ x rows free sound.apart;
-      within = within-inserted (IsWithin roots entries) _ x rows (record { root = r; entry = e }) sound.within;
+      apart = apart-inserted (stays root key) x rows free sound.apart;
+      within = within-inserted (IsWithin roots entries) (stays root key) x rows (record { root = r; entry = e }) sound.within;
+      rising = rising_rows-inserted root entry key rows sound.rising;
     })
 
 pub has_row-filter : (entry gone : ℕ) (rows : List Row) → has_row entry rows ≡ false → has_row entry (filter (λ (y : Row). not (eqb y.entry gone)) rows) ≡ false
@@ -390,6 +405,28 @@ pub sound-filter : (roots entries gone : ℕ) (rows : List Row) → AreSound roo
 sound-filter roots entries gone rows sound = record {
   apart = apart-filter gone rows sound.apart;
   within = within-filter (IsWithin roots entries) gone rows sound.within;
+  rising = λ root. rw (items_of-filter gone root rows) (rising-filter (λ (y : KeyedItem). not (is_entry gone y)) (items_of root rows) (sound.rising root));
+}
+
+-- ---- the rows are keyed lists
+
+pub once_rows : (root : ℕ) (rows : List Row) → AreApart rows → IsOnce (items_of root rows)
+once_rows root [] apart = tt
+once_rows root (y ∷ ys) apart =
+    elim (cases_Bool (eqb y.root root)) [
+      | inl h ↦ rw h (elim (cases_Bool (list_any (is_entry y.entry) (items_of root ys))) [
+        | inl k ↦ absurd (false≢true (sym apart.0 ∙ has_row_from_list y.entry root ys k))
+        | inr k ↦ (k, once_rows root ys apart.1)
+      ])
+      | inr h ↦ rw h (once_rows root ys apart.1)
+    ]
+
+pub rows_keyed : (rows : List Row) (ns : List ℕ) (entries : ℕ) (s : KeyedRoots) → meaning rows ns entries ≡ s → AreSound (length ns) entries rows → AreKeyed s
+rows_keyed rows ns entries s is sound = record {
+  keyed = λ root lt.
+      let items : (root_at root s).items ≡ items_of root rows = items_at rows ns entries s is root lt in
+      record { rising = rw items (sound.rising root); once = rw items (once_rows root rows sound.apart) };
+  one = λ entry root other h k. one_root rows entry root other sound.apart (held_at rows ns entries s is root entry h) (held_at rows ns entries s is other entry k);
 }
 
 -- no rows and no insertions mean empty roots

@@ -108,6 +108,11 @@ IsPlaced entry s = (root : ℕ) × StandsIn root entry s
 abbrev pub IsFree : ℕ → KeyedRoots → Type 0
 IsFree entry s = (root : ℕ) → root < length s.roots → holds entry (root_at root s) ≡ false
 
+-- in each root keys never fall and no entry stands twice, and no entry stands in two roots
+pub record AreKeyed (s : KeyedRoots) : Type 0 where
+  pub keyed : (root : ℕ) → root < length s.roots → IsKeyed (root_at root s)
+  pub one : (entry root other : ℕ) → StandsIn root entry s → StandsIn other entry s → root ≡ other
+
 -- what changes one root alone: all others stay, and so do the numbers of roots and entries
 pub record ChangesRoot (root : ℕ) (old new : KeyedRoots) : Type 0 where
   pub roots : length new.roots ≡ length old.roots

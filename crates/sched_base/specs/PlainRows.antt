@@ -2,7 +2,7 @@
 use Rattle.std.specs.Prelude.{◌≡◌, ℕ, ◌+◌, ◌<◌, ◌==◌, Bool, false, List, [], ◌∷◌, filter, map}
 use Rattle.std.specs.List.{AllByRecursion, list_any}
 use Rattle.sched_base.specs.declared.plain_lists.Row.{Row}
-use Rattle.sched_base.specs.KeyedList.{KeyedItem, KeyedList}
+use Rattle.sched_base.specs.KeyedList.{KeyedItem, KeyedList, IsRising}
 
 -- the items of one root, in the order of the rows
 abbrev pub items_of : ℕ → List Row → List KeyedItem
@@ -27,7 +27,8 @@ abbrev pub AreApart : List Row → Type 0
 AreApart [] = Unit {0}
 AreApart (x ∷ xs) = (has_row x.entry xs ≡ false) × AreApart xs
 
--- no entry has two rows, and all rows are within the numbers of roots and entries
+-- no entry has two rows, all rows are within the numbers of roots and entries, and keys never fall along a root's rows
 pub record AreSound (roots entries : ℕ) (rows : List Row) : Type 0 where
   pub apart : AreApart rows
   pub within : AllByRecursion (IsWithin roots entries) rows
+  pub rising : (root : ℕ) → IsRising (items_of root rows)

@@ -1,7 +1,7 @@
 //! Ordered lists of numbered entries, of which several queues may share one set.
 
 ghost use Rattle.std.specs.Prelude.{◌≡◌, ℕ, ◌+◌, ◌^◌, ◌<◌, length, Option, Some, IfSome};
-ghost use Rattle.sched_base.specs.KeyedList.{KeyedRoots, root_at, inserted_into, deleted_from, StandsIn, IsPlaced, IsFree, first_entry, next_entry, entry_from, key_of_entry};
+ghost use Rattle.sched_base.specs.KeyedList.{KeyedRoots, root_at, inserted_into, deleted_from, AreKeyed, StandsIn, IsPlaced, IsFree, first_entry, next_entry, entry_from, key_of_entry};
 
 /// Several ordered lists, one for each root, over the entries from 0 on. A list is ordered by key
 /// as an unsigned number, and among equal keys by arrival. An entry stands in one root at most
@@ -9,6 +9,11 @@ ghost use Rattle.sched_base.specs.KeyedList.{KeyedRoots, root_at, inserted_into,
 pub trait KeyedLists {
     /// All lists, how many insertions were made into each, and the number of entries.
     ghost seen: { Self → KeyedRoots };
+
+    /// Keys never fall along a list, and an entry stands at most once, in one root at most. So it is
+    /// at any time: the call does nothing, and its contract is the law.
+    fn stay_keyed(&self)
+        ensures { AreKeyed (seen self.now) };
 
     /// Puts an entry into a root, behind all items of at most its key.
     fn insert(&mut self, root: u32, entry: u32, key: u32)

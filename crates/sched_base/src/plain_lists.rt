@@ -107,6 +107,10 @@ fn place_above(rows: &[Row], root: u32, key: u32) -> Option<usize>
 impl KeyedLists for PlainLists {
     ghost seen = { λ p. p };
 
+    fn stay_keyed(&self) {
+        let _ = &self.rows;
+    }
+
     fn insert(&mut self, root: u32, entry: u32, key: u32) {
         let above = place_above(self.rows.as_slice(), root, key);
         let place = above.unwrap_or(self.rows.len());

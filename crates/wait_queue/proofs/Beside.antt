@@ -16,8 +16,6 @@ stays_beside q lists new other f c ne none =
         exists = rw long f.exists;
         room = rw entries f.room;
         numbers = rw entries f.numbers;
-        rising = rw same f.rising;
-        once = rw same f.once;
         timers = rw same f.timers;
         apart = λ r task within away below. elim (cases_eq r other) [
           | inl e ↦ ap (λ k. holds (entry_of task) (root_at k new)) e ∙ none task

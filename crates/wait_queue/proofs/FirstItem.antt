@@ -3,7 +3,8 @@ use Rattle.std.proofs.Common.{◌≡◌, ℕ, ◌+◌, ◌/◌, ◌^◌, ◌<◌
 use Rattle.std.specs.Prelude.{int_le}
 use Rattle.std.specs.List.{filter, AllByRecursion}
 use Rattle.std.proofs.lemmas.List.{length-set}
-use Rattle.sched_base.specs.KeyedList.{KeyedItem, KeyedList, KeyedRoots, root_at, without_entry, inserted_into, deleted_from, with_entry, is_entry, holds, first_entry, key_of_entry, IsFree, ChangesRoot}
+use Rattle.sched_base.specs.KeyedList.{KeyedItem, KeyedList, KeyedRoots, AreKeyed, IsKeyed, root_at, without_entry, inserted_into, deleted_from, with_entry, is_entry, holds, first_entry, key_of_entry, IsFree, ChangesRoot}
+use Rattle.sched_base.proofs.Keyed.{at_root, keyed_roots-deleted}
 use Rattle.sched_base.proofs.Inserted.{all-weaker, filter-inserted_out}
 use Rattle.queue_model.specs.Ticks.{distance, is_expired, is_set}
 use Rattle.queue_model.specs.WaitList.{WaitItem, WaitList, placed}
@@ -15,7 +16,7 @@ use Rattle.queue_model.proofs.WalkItems.{none_is}
 use Rattle.queue_model.proofs.SweepSteps.{is_due, DueFirst, none_due, step_fires, step_puts_back, step_forgets}
 use Rattle.wait_queue.specs.Looks.{Settles, Passes, Fires}
 use Rattle.wait_queue.specs.Timers.{Timers, entry_of, wait_item, wait_list, IsTimer, Fits, insertions_of, Inserts}
-use Rattle.wait_queue.proofs.Meaning.{First, first_of, due_first, ticks_of, same_root, changes_root, changes_both, insertion_places, fits_after_insertion, fits_after_deletion, fits_after_change, free_after_deletion, free_task, entry_exists, insertions_after_insertion, insertions_after_deletion, unset, set_positive}
+use Rattle.wait_queue.proofs.Meaning.{First, first_of, due_first, ticks_of, changes_root, changes_both, insertion_places, fits_after_insertion, fits_after_deletion, fits_after_change, free_after_deletion, free_task, entry_exists, insertions_after_insertion, insertions_after_deletion, unset, set_positive}
 
 -- where there is no first item nothing is due
 pub settles_empty : (now : ℕ) (q : Timers) (s : KeyedRoots) → None ≡ first_entry (walked now (root_at q.root s).items) → Settles now (wait_list now q s) (wait_list now q s)
@@ -24,9 +25,9 @@ settles_empty now q s h = record {
   none = ap (λ (xs : List KeyedItem). filter (is_due now) (map wait_item xs)) (none_is (walked now (root_at q.root s).items) (sym h));
 }
 
-module _ (now entry : ℕ) (q : Timers) (s : KeyedRoots) (f : Fits q s) (n : now < 2 ^ 32) (h : Some entry ≡ first_entry (walked now (root_at q.root s).items)) where
+module _ (now entry : ℕ) (q : Timers) (s : KeyedRoots) (f : Fits q s) (keyed : AreKeyed s) (n : now < 2 ^ 32) (h : Some entry ≡ first_entry (walked now (root_at q.root s).items)) where
   abbrev pub first : First now entry q s
-  first = first_of now entry q s f (sym h)
+  first = first_of now entry q s f keyed (sym h)
 
   abbrev pub one : WaitItem
   one = wait_item first.item
@@ -41,7 +42,7 @@ module _ (now entry : ℕ) (q : Timers) (s : KeyedRoots) (f : Fits q s) (n : now
   ordered =
       let items : List KeyedItem = (root_at q.root s).items in
       let set' : AllByRecursion (λ (y : KeyedItem). 0 < y.key) items = all-weaker (IsTimer (length q.expiries)) (λ (y : KeyedItem). 0 < y.key) items (λ y t. t.set) f.timers in
-      subst (λ (xs : List KeyedItem). DueFirst now (map wait_item xs)) first.walk (due_first now (walked now items) (walked_by_distance now items n (ticks_of _ items f.timers) f.rising) (all-walked (λ (y : KeyedItem). 0 < y.key) now items set'))
+      subst (λ (xs : List KeyedItem). DueFirst now (map wait_item xs)) first.walk (due_first now (walked now items) (walked_by_distance now items n (ticks_of _ items f.timers) (keyed.keyed q.root f.exists).rising) (all-walked (λ (y : KeyedItem). 0 < y.key) now items set'))
 
   pub task_is : one.task ≡ entry / 2
   task_is = ap (λ e. e / 2) first.own
@@ -70,6 +71,9 @@ module _ (now entry : ℕ) (q : Timers) (s : KeyedRoots) (f : Fits q s) (n : now
     pub fits_out : Fits q s'
     fits_out = rw out (fits_after_deletion q s f entry)
 
+    pub keyed_out : AreKeyed s'
+    keyed_out = rw out (keyed_roots-deleted q.root entry s f.exists keyed)
+
     pub changes_out : ChangesRoot q.root s s'
     changes_out = rw out (changes_root q.root (without_entry entry (root_at q.root s)) s)
 
@@ -86,7 +90,7 @@ module _ (now entry : ℕ) (q : Timers) (s : KeyedRoots) (f : Fits q s) (n : now
         let keeps : KeyedItem → Bool = λ y. not (is_entry entry y) in
         let rest : walked now (filter keeps items) ≡ first.rest = walked-filter now keeps items ∙ ap (filter keeps) first.walk ∙ first.alone in
         ap (λ (u : KeyedRoots). wait_list now q u) out
-        ∙ ap (λ (l : KeyedList). let w : WaitList = record { items = map wait_item (walked now l.items); expiries = q.expiries } in w) (same_root q.root (without_entry entry (root_at q.root s)) s f.exists)
+        ∙ ap (λ (l : KeyedList). let w : WaitList = record { items = map wait_item (walked now l.items); expiries = q.expiries } in w) (at_root q.root (without_entry entry (root_at q.root s)) s f.exists)
         ∙ ap (λ (xs : List KeyedItem). let w : WaitList = record { items = map wait_item xs; expiries = q.expiries } in w) rest
 
     pub due_old : due now (wait_list now q s) ≡ one ∷ filter (is_due now) others
@@ -145,7 +149,7 @@ module _ (now entry : ℕ) (q : Timers) (s : KeyedRoots) (f : Fits q s) (n : now
           let p = step_puts_back now one others q.expiries t own is_due_one later armed ordered in
           let now_is : wait_list now q s'' ≡ record { items = placed now one.task t others; expiries = q.expiries } =
           ap (λ (u : KeyedRoots). wait_list now q u) back'
-          ∙ insertion_places q s' fits_out now (entry / 2) t n tick
+          ∙ insertion_places q s' fits_out keyed_out now (entry / 2) t n tick
           ∙ ap (λ (l : WaitList). let m : WaitList = record { items = placed now (entry / 2) t l.items; expiries = q.expiries } in m) left_is
           ∙ ap (λ i. let m : WaitList = record { items = placed now i t others; expiries = q.expiries } in m) (sym task_is) in
           let due_new : due now (wait_list now q s'') ≡ filter (is_due now) others =
@@ -158,7 +162,7 @@ module _ (now entry : ℕ) (q : Timers) (s : KeyedRoots) (f : Fits q s) (n : now
           }
 
       pub fits_back : Fits q s''
-      fits_back = rw back' (fits_after_insertion q s' fits_out (entry / 2) t task_exists (set_positive t armed) tick (subst (λ x. holds x (root_at q.root s') ≡ false) entry_is (ap (λ (u : KeyedRoots). holds entry (root_at q.root u)) out ∙ free_after_deletion q s f entry)))
+      fits_back = rw back' (fits_after_insertion q s' fits_out (entry / 2) t task_exists (set_positive t armed) tick)
 
       pub changes_back : ChangesRoot q.root s s''
       changes_back = changes_both q.root s s' s'' changes_out (rw back (changes_root q.root (with_entry t entry (root_at q.root s')) s'))

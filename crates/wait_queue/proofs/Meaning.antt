@@ -7,8 +7,9 @@ use Rattle.std.proofs.lemmas.Bool.{cases_Bool, cases_eq, or_parts, not_from_fals
 use Rattle.std.proofs.lemmas.Int.{ints}
 use Rattle.std.proofs.lemmas.List.{get_or_default, get_or-set_same, get_or-set_other, length-set, length-map, length-replicate}
 use Rattle.std.proofs.lemmas.Map.Steps.{length-le_from_distinct_below}
-use Rattle.sched_base.specs.KeyedList.{KeyedItem, KeyedList, KeyedRoots, root_at, with_root, with_entry, without_entry, inserted_into, deleted_from, inserted, is_entry, holds, key_of_entry, first_entry, StandsIn, IsFree, ChangesRoot, IsOnce, blank}
+use Rattle.sched_base.specs.KeyedList.{KeyedItem, KeyedList, KeyedRoots, AreKeyed, IsKeyed, root_at, with_root, with_entry, without_entry, inserted_into, deleted_from, inserted, is_entry, holds, key_of_entry, first_entry, StandsIn, IsFree, ChangesRoot, IsOnce, blank}
 use Rattle.sched_base.proofs.Inserted.{map-inserted, all-inserted, all-filter, all-weaker, rising-inserted, rising-filter, filter-all, filter-none, all-both, all-map}
+use Rattle.sched_base.proofs.Keyed.{at_root, at_other, keyed_roots-deleted}
 use Rattle.sched_base.proofs.Once.{In, in_all, in_held, in_find, item_of_held, once-inserted, once-filter, held-deleted, none_held, none_found}
 use Rattle.queue_model.specs.Ticks.{distance, is_expired, is_set}
 use Rattle.queue_model.specs.WaitList.{WaitItem, WaitList, is_of, without, placed, expiry_of, armed, unlinked}
@@ -21,17 +22,11 @@ use Rattle.wait_queue.specs.Timers.{Timers, IsReady, entry_of, wait_item, wait_l
 
 -- ---- one root that changes
 
-pub same_root : (r : ℕ) (l : KeyedList) (s : KeyedRoots) → r < length s.roots → root_at r (with_root r l s) ≡ l
-same_root r l s lt = get_or-set_same s.roots r l blank lt
-
-pub other_root : (r other : ℕ) (l : KeyedList) (s : KeyedRoots) → (other ≡ r → ⊥) → root_at other (with_root r l s) ≡ root_at other s
-other_root r other l s ne = get_or-set_other s.roots r other l blank ne
-
 pub changes_root : (r : ℕ) (l : KeyedList) (s : KeyedRoots) → ChangesRoot r s (with_root r l s)
 changes_root r l s = record {
   roots = length-set s.roots r l;
   entries = refl;
-  others = λ other ne. other_root r other l s ne;
+  others = λ other ne. at_other r other l s ne;
 }
 
 pub changes_none : (r : ℕ) (s : KeyedRoots) → ChangesRoot r s s
@@ -80,10 +75,10 @@ ticks_of tasks xs all = all-weaker (IsTimer tasks) (λ (y : KeyedItem). y.key < 
 
 module _ (q : Timers) (s : KeyedRoots) (f : Fits q s) where
   -- the item of a task in the wait list, by a look in the root
-  pub find_task : (now i : ℕ) → find (is_of i) (wait_list now q s).items ≡ option_map wait_item (find (is_entry (entry_of i)) (root_at q.root s).items)
-  find_task now i =
+  pub find_task : AreKeyed s → (now i : ℕ) → find (is_of i) (wait_list now q s).items ≡ option_map wait_item (find (is_entry (entry_of i)) (root_at q.root s).items)
+  find_task keyed now i =
       find-map (length q.expiries) i (walked now (root_at q.root s).items) (all-walked (IsTimer (length q.expiries)) now (root_at q.root s).items f.timers)
-      ∙ ap (option_map wait_item) (find_walked now (entry_of i) (root_at q.root s).items f.once)
+      ∙ ap (option_map wait_item) (find_walked now (entry_of i) (root_at q.root s).items (keyed.keyed q.root f.exists).once)
 
   -- a task of the queue stands in its root or in none
   pub stands_nowhere_else : (i root : ℕ) → i < length q.expiries → StandsIn root (entry_of i) s → root ≡ q.root
@@ -104,12 +99,12 @@ module _ (q : Timers) (s : KeyedRoots) (f : Fits q s) where
   entry_exists i lt = let r : 2 * length q.expiries ≤ s.entries = f.room in omega arith
 
   -- an insertion places the task
-  pub insertion_places : (now i t : ℕ) → now < 2 ^ 32 → t < 2 ^ 32 → wait_list now q (inserted_into q.root (entry_of i) t s) ≡ record { items = placed now i t (wait_list now q s).items; expiries = q.expiries }
-  insertion_places now i t n h =
+  pub insertion_places : AreKeyed s → (now i t : ℕ) → now < 2 ^ 32 → t < 2 ^ 32 → wait_list now q (inserted_into q.root (entry_of i) t s) ≡ record { items = placed now i t (wait_list now q s).items; expiries = q.expiries }
+  insertion_places keyed now i t n h =
       let items : List KeyedItem = (root_at q.root s).items in
       let x : KeyedItem = record { key = t; entry = entry_of i } in
-      let at : root_at q.root (inserted_into q.root (entry_of i) t s) ≡ with_entry t (entry_of i) (root_at q.root s) = same_root q.root _ s f.exists in
-      let walk : walked now (inserted (λ (y : KeyedItem). leb y.key t) x items) ≡ inserted (λ (y : KeyedItem). int_le (distance y.key now) (distance t now)) x (walked now items) = walked-inserted now t x items n h refl (ticks_of _ items f.timers) f.rising in
+      let at : root_at q.root (inserted_into q.root (entry_of i) t s) ≡ with_entry t (entry_of i) (root_at q.root s) = at_root q.root _ s f.exists in
+      let walk : walked now (inserted (λ (y : KeyedItem). leb y.key t) x items) ≡ inserted (λ (y : KeyedItem). int_le (distance y.key now) (distance t now)) x (walked now items) = walked-inserted now t x items n h refl (ticks_of _ items f.timers) (keyed.keyed q.root f.exists).rising in
       let item : wait_item x ≡ record { key = t; task = i } = ap (λ k. let w : WaitItem = record { key = t; task = k } in w) (half_of i) in
       ap (λ (l : KeyedList). let w : WaitList = record { items = map wait_item (walked now l.items); expiries = q.expiries } in w) at
       ∙ ap (λ (ys : List KeyedItem). let w : WaitList = record { items = map wait_item ys; expiries = q.expiries } in w) walk
@@ -120,16 +115,16 @@ module _ (q : Timers) (s : KeyedRoots) (f : Fits q s) where
   pub deletion_takes_out : (now i : ℕ) → wait_list now q (deleted_from q.root (entry_of i) s) ≡ record { items = without i (wait_list now q s).items; expiries = q.expiries }
   deletion_takes_out now i =
       let items : List KeyedItem = (root_at q.root s).items in
-      let at : root_at q.root (deleted_from q.root (entry_of i) s) ≡ without_entry (entry_of i) (root_at q.root s) = same_root q.root _ s f.exists in
+      let at : root_at q.root (deleted_from q.root (entry_of i) s) ≡ without_entry (entry_of i) (root_at q.root s) = at_root q.root _ s f.exists in
       ap (λ (l : KeyedList). let w : WaitList = record { items = map wait_item (walked now l.items); expiries = q.expiries } in w) at
       ∙ ap (λ (ys : List KeyedItem). let w : WaitList = record { items = map wait_item ys; expiries = q.expiries } in w) (walked-filter now (λ (y : KeyedItem). not (is_entry (entry_of i) y)) items)
       ∙ ap (λ (ys : List WaitItem). let w : WaitList = record { items = ys; expiries = q.expiries } in w) (map-without (length q.expiries) i (walked now items) (all-walked (IsTimer (length q.expiries)) now items f.timers))
 
   -- the queue still fits after an insertion
-  pub fits_after_insertion : (i t : ℕ) → i < length q.expiries → 0 < t → t < 2 ^ 32 → holds (entry_of i) (root_at q.root s) ≡ false → Fits q (inserted_into q.root (entry_of i) t s)
-  fits_after_insertion i t lt p h free =
+  pub fits_after_insertion : (i t : ℕ) → i < length q.expiries → 0 < t → t < 2 ^ 32 → Fits q (inserted_into q.root (entry_of i) t s)
+  fits_after_insertion i t lt p h =
       let x : KeyedItem = record { key = t; entry = entry_of i } in
-      let at : root_at q.root (inserted_into q.root (entry_of i) t s) ≡ with_entry t (entry_of i) (root_at q.root s) = same_root q.root _ s f.exists in
+      let at : root_at q.root (inserted_into q.root (entry_of i) t s) ≡ with_entry t (entry_of i) (root_at q.root s) = at_root q.root _ s f.exists in
       let by_key : KeyedItem → Bool = λ y. leb y.key t in
       let long : length (inserted_into q.root (entry_of i) t s).roots ≡ length s.roots = length-set s.roots q.root _ in
       let half : entry_of i / 2 ≡ i = half_of i in
@@ -137,36 +132,32 @@ module _ (q : Timers) (s : KeyedRoots) (f : Fits q s) where
         exists = rw long f.exists;
         room = f.room;
         numbers = f.numbers;
-        rising = rw at (rising-inserted t x (root_at q.root s).items refl f.rising);
-        once = rw at (once-inserted by_key x (root_at q.root s).items free f.once);
         timers = rw at (all-inserted (IsTimer (length q.expiries)) by_key x (root_at q.root s).items (record { entry = omega arith; task = omega arith; set = p; tick = h }) f.timers);
-        apart = λ other task within ne below. rw (other_root q.root other _ s ne) (f.apart other task (rw long at within) ne below);
+        apart = λ other task within ne below. rw (at_other q.root other _ s ne) (f.apart other task (rw long at within) ne below);
       }
 
   -- and after a deletion
   pub fits_after_deletion : (entry : ℕ) → Fits q (deleted_from q.root entry s)
   fits_after_deletion entry =
-      let at : root_at q.root (deleted_from q.root entry s) ≡ without_entry entry (root_at q.root s) = same_root q.root _ s f.exists in
+      let at : root_at q.root (deleted_from q.root entry s) ≡ without_entry entry (root_at q.root s) = at_root q.root _ s f.exists in
       let keeps : KeyedItem → Bool = λ y. not (is_entry entry y) in
       let long : length (deleted_from q.root entry s).roots ≡ length s.roots = length-set s.roots q.root _ in
       record {
         exists = rw long f.exists;
         room = f.room;
         numbers = f.numbers;
-        rising = rw at (rising-filter keeps (root_at q.root s).items f.rising);
-        once = rw at (once-filter keeps (root_at q.root s).items f.once);
         timers = rw at (all-filter (IsTimer (length q.expiries)) keeps (root_at q.root s).items f.timers);
-        apart = λ other task within ne below. rw (other_root q.root other _ s ne) (f.apart other task (rw long at within) ne below);
+        apart = λ other task within ne below. rw (at_other q.root other _ s ne) (f.apart other task (rw long at within) ne below);
       }
 
   pub free_after_deletion : (entry : ℕ) → holds entry (root_at q.root (deleted_from q.root entry s)) ≡ false
-  free_after_deletion entry = rw (same_root q.root (without_entry entry (root_at q.root s)) s f.exists) (held-deleted entry (root_at q.root s).items)
+  free_after_deletion entry = rw (at_root q.root (without_entry entry (root_at q.root s)) s f.exists) (held-deleted entry (root_at q.root s).items)
 
   pub insertions_after_insertion : (entry t : ℕ) → insertions_of q (inserted_into q.root entry t s) ≡ insertions_of q s + 1
-  insertions_after_insertion entry t = ap (λ (l : KeyedList). l.insertions) (same_root q.root _ s f.exists)
+  insertions_after_insertion entry t = ap (λ (l : KeyedList). l.insertions) (at_root q.root _ s f.exists)
 
   pub insertions_after_deletion : (entry : ℕ) → insertions_of q (deleted_from q.root entry s) ≡ insertions_of q s
-  insertions_after_deletion entry = ap (λ (l : KeyedList). l.insertions) (same_root q.root _ s f.exists)
+  insertions_after_deletion entry = ap (λ (l : KeyedList). l.insertions) (at_root q.root _ s f.exists)
 
 -- a change of expiries leaves what fits
 pub fits_after_change : (q r : Timers) (s : KeyedRoots) → r.root ≡ q.root → length r.expiries ≡ length q.expiries → Fits q s → Fits r s
@@ -174,8 +165,6 @@ fits_after_change q r s same long f = record {
   exists = rw same f.exists;
   room = rw long f.room;
   numbers = f.numbers;
-  rising = rw same f.rising;
-  once = rw same f.once;
   timers = rw (same, long) f.timers;
   apart = λ other task within ne below. f.apart other task within (λ e. ne (e ∙ sym same)) (rw long at below);
 }
@@ -212,15 +201,15 @@ pub record First (now entry : ℕ) (q : Timers) (s : KeyedRoots) : Type 0 where
   pub key : key_of_entry entry (root_at q.root s).items ≡ Some item.key
   pub alone : filter (λ (y : KeyedItem). not (is_entry entry y)) (item ∷ rest) ≡ rest
 
-pub first_of : (now entry : ℕ) (q : Timers) (s : KeyedRoots) → Fits q s → first_entry (walked now (root_at q.root s).items) ≡ Some entry → First now entry q s
-first_of now entry q s f h =
+pub first_of : (now entry : ℕ) (q : Timers) (s : KeyedRoots) → Fits q s → AreKeyed s → first_entry (walked now (root_at q.root s).items) ≡ Some entry → First now entry q s
+first_of now entry q s f keyed h =
     let items : List KeyedItem = (root_at q.root s).items in
     let w = first_is (walked now items) entry h in
     let there : In w.0 (walked now items) = subst (λ (zs : List KeyedItem). In w.0 zs) (sym w.2) (inl refl) in
     let in' : In w.0 items = walked_in now w.0 items there in
     let own : w.0.entry ≡ entry = w.3 in
-    let found : find (is_entry w.0.entry) items ≡ Some w.0 = in_find w.0 items f.once in' in
-    let once : IsOnce (w.0 ∷ w.1) = subst (λ (zs : List KeyedItem). IsOnce zs) w.2 (once_walked now items f.once) in
+    let found : find (is_entry w.0.entry) items ≡ Some w.0 = in_find w.0 items (keyed.keyed q.root f.exists).once in' in
+    let once : IsOnce (w.0 ∷ w.1) = subst (λ (zs : List KeyedItem). IsOnce zs) w.2 (once_walked now items (keyed.keyed q.root f.exists).once) in
     let rest : filter (λ (y : KeyedItem). not (is_entry w.0.entry y)) w.1 ≡ w.1 = filter-all (λ (y : KeyedItem). not (is_entry w.0.entry y)) w.1 (all-weaker (λ (y : KeyedItem). is_entry w.0.entry y ≡ false) (λ (y : KeyedItem). not (is_entry w.0.entry y) ≡ true) w.1 (λ y k. not_from_false _ k) (none_held (is_entry w.0.entry) w.1 once.0)) in
     record {
       item = w.0;
@@ -257,11 +246,11 @@ tasks_below tasks (x ∷ xs) all i h =
       | inr e ↦ tasks_below tasks xs all.1 i (rw e at h)
     ]
 
-pub due_bound : (now : ℕ) (q : Timers) (s : KeyedRoots) → Fits q s → length (due now (wait_list now q s)) ≤ length q.expiries
-due_bound now q s f =
+pub due_bound : (now : ℕ) (q : Timers) (s : KeyedRoots) → Fits q s → AreKeyed s → length (due now (wait_list now q s)) ≤ length q.expiries
+due_bound now q s f keyed =
     let items : List KeyedItem = walked now (root_at q.root s).items in
     let timers : AllByRecursion (IsTimer (length q.expiries)) items = all-walked (IsTimer (length q.expiries)) now (root_at q.root s).items f.timers in
-    let count : length (map (λ (y : KeyedItem). y.entry / 2) items) ≤ length q.expiries = length-le_from_distinct_below _ (length q.expiries) (tasks_distinct (length q.expiries) items timers (once_walked now (root_at q.root s).items f.once)) (tasks_below (length q.expiries) items timers) in
+    let count : length (map (λ (y : KeyedItem). y.entry / 2) items) ≤ length q.expiries = length-le_from_distinct_below _ (length q.expiries) (tasks_distinct (length q.expiries) items timers (once_walked now (root_at q.root s).items (keyed.keyed q.root f.exists).once)) (tasks_below (length q.expiries) items timers) in
     let part : length (filter (is_due now) (map wait_item items)) ≤ length (map wait_item items) = fewer (is_due now) (map wait_item items) in
     omega (arith, length-map items (λ (y : KeyedItem). y.entry / 2), length-map items wait_item)
   where
@@ -277,8 +266,8 @@ pub map-key : (o : Option KeyedItem) → option_map (λ (y : WaitItem). y.key) (
 map-key (Some y) = refl
 map-key None = refl
 
-pub key_in_list : (now i : ℕ) (q : Timers) (s : KeyedRoots) → Fits q s → key_of_task i (wait_list now q s).items ≡ key_of_entry (entry_of i) (root_at q.root s).items
-key_in_list now i q s f = ap (option_map (λ (y : WaitItem). y.key)) (find_task q s f now i) ∙ map-key _
+pub key_in_list : (now i : ℕ) (q : Timers) (s : KeyedRoots) → Fits q s → AreKeyed s → key_of_task i (wait_list now q s).items ≡ key_of_entry (entry_of i) (root_at q.root s).items
+key_in_list now i q s f keyed = ap (option_map (λ (y : WaitItem). y.key)) (find_task q s f keyed now i) ∙ map-key _
 
 -- a root that was named is the queue's
 pub found_here : (i : ℕ) (q : Timers) (s : KeyedRoots) → Fits q s → i < length q.expiries → (r : Option ℕ) → is_some r ≡ true → IfSome r (λ root. StandsIn root (entry_of i) s) → StandsIn q.root (entry_of i) s
@@ -296,20 +285,20 @@ absent_here i q s f r h one =
 pub find_absent : (i : ℕ) (xs : List KeyedItem) → list_any (is_entry (entry_of i)) xs ≡ false → find (is_entry (entry_of i)) xs ≡ None
 find_absent i xs h = none_found (is_entry (entry_of i)) xs (none_held (is_entry (entry_of i)) xs h)
 
-pub key_absent : (now i : ℕ) (q : Timers) (s : KeyedRoots) → Fits q s → holds (entry_of i) (root_at q.root s) ≡ false → None ≡ key_of_task i (wait_list now q s).items
-key_absent now i q s f h = sym (key_in_list now i q s f ∙ ap (option_map (λ (y : KeyedItem). y.key)) (find_absent i (root_at q.root s).items h))
+pub key_absent : (now i : ℕ) (q : Timers) (s : KeyedRoots) → Fits q s → AreKeyed s → holds (entry_of i) (root_at q.root s) ≡ false → None ≡ key_of_task i (wait_list now q s).items
+key_absent now i q s f keyed h = sym (key_in_list now i q s f keyed ∙ ap (option_map (λ (y : KeyedItem). y.key)) (find_absent i (root_at q.root s).items h))
 
-pub find_task_absent : (now i : ℕ) (q : Timers) (s : KeyedRoots) → Fits q s → holds (entry_of i) (root_at q.root s) ≡ false → find (is_of i) (wait_list now q s).items ≡ None
-find_task_absent now i q s f h = find_task q s f now i ∙ ap (option_map wait_item) (find_absent i (root_at q.root s).items h)
+pub find_task_absent : (now i : ℕ) (q : Timers) (s : KeyedRoots) → Fits q s → AreKeyed s → holds (entry_of i) (root_at q.root s) ≡ false → find (is_of i) (wait_list now q s).items ≡ None
+find_task_absent now i q s f keyed h = find_task q s f keyed now i ∙ ap (option_map wait_item) (find_absent i (root_at q.root s).items h)
 
 -- a task without a key is not held
-pub absent_task : (now i : ℕ) (q : Timers) (s : KeyedRoots) → Fits q s → None ≡ key_of_task i (wait_list now q s).items → holds (entry_of i) (root_at q.root s) ≡ false
-absent_task now i q s f e =
+pub absent_task : (now i : ℕ) (q : Timers) (s : KeyedRoots) → Fits q s → AreKeyed s → None ≡ key_of_task i (wait_list now q s).items → holds (entry_of i) (root_at q.root s) ≡ false
+absent_task now i q s f keyed e =
     elim (cases_Bool (holds (entry_of i) (root_at q.root s))) [
       | inl k ↦
           let w = item_of_held (entry_of i) (root_at q.root s).items k in
-          let found : find (is_entry (entry_of i)) (root_at q.root s).items ≡ Some w.0 = ap (λ x. find (is_entry x) (root_at q.root s).items) (sym w.2) ∙ in_find w.0 (root_at q.root s).items f.once w.1 in
-          let some : None ≡ Some w.0.key = e ∙ key_in_list now i q s f ∙ ap (option_map (λ (y : KeyedItem). y.key)) found in
+          let found : find (is_entry (entry_of i)) (root_at q.root s).items ≡ Some w.0 = ap (λ x. find (is_entry x) (root_at q.root s).items) (sym w.2) ∙ in_find w.0 (root_at q.root s).items (keyed.keyed q.root f.exists).once w.1 in
+          let some : None ≡ Some w.0.key = e ∙ key_in_list now i q s f keyed ∙ ap (option_map (λ (y : KeyedItem). y.key)) found in
           cc
       | inr k ↦ k
     ]
@@ -321,20 +310,20 @@ pub record Present (now i key : ℕ) (q : Timers) (s : KeyedRoots) : Type 0 wher
   pub under : item.key ≡ key
   pub stands : StandsIn q.root (entry_of i) s
 
-pub present_task : (now i key : ℕ) (q : Timers) (s : KeyedRoots) → Fits q s → Some key ≡ key_of_task i (wait_list now q s).items → Present now i key q s
-present_task now i key q s f e =
+pub present_task : (now i key : ℕ) (q : Timers) (s : KeyedRoots) → Fits q s → AreKeyed s → Some key ≡ key_of_task i (wait_list now q s).items → Present now i key q s
+present_task now i key q s f keyed e =
     elim (cases_Bool (holds (entry_of i) (root_at q.root s))) [
       | inl k ↦
           let w = item_of_held (entry_of i) (root_at q.root s).items k in
-          let found : find (is_entry (entry_of i)) (root_at q.root s).items ≡ Some w.0 = ap (λ x. find (is_entry x) (root_at q.root s).items) (sym w.2) ∙ in_find w.0 (root_at q.root s).items f.once w.1 in
-          let some : Some key ≡ Some w.0.key = e ∙ key_in_list now i q s f ∙ ap (option_map (λ (y : KeyedItem). y.key)) found in
+          let found : find (is_entry (entry_of i)) (root_at q.root s).items ≡ Some w.0 = ap (λ x. find (is_entry x) (root_at q.root s).items) (sym w.2) ∙ in_find w.0 (root_at q.root s).items (keyed.keyed q.root f.exists).once w.1 in
+          let some : Some key ≡ Some w.0.key = e ∙ key_in_list now i q s f keyed ∙ ap (option_map (λ (y : KeyedItem). y.key)) found in
           record {
             item = wait_item w.0;
-            found = find_task q s f now i ∙ ap (option_map wait_item) found;
+            found = find_task q s f keyed now i ∙ ap (option_map wait_item) found;
             under = let same : w.0.key ≡ key = cc in same;
             stands = record { exists = f.exists; held = k };
           }
-      | inr k ↦ let none : Some key ≡ None = e ∙ sym (key_absent now i q s f k) in cc
+      | inr k ↦ let none : Some key ≡ None = e ∙ sym (key_absent now i q s f keyed k) in cc
     ]
 
 -- whether the queue has no item
@@ -372,35 +361,38 @@ pub set_positive : (t : ℕ) → is_set t ≡ true → 0 < t
 set_positive t h = elim (cases_eq t 0) [ inl e ↦ absurd (false≢true (sym (rw (eq-eqb t 0 e) refl) ∙ h)) | inr ne ↦ omega arith ]
 
 -- a task that is absent goes in at its expiry
-module _ (now i t : ℕ) (q : Timers) (s s' : KeyedRoots) (f : Fits q s) (lt : i < length q.expiries) (n : now < 2 ^ 32) (tick : t < 2 ^ 32) (is : t ≡ get_or q.expiries i 0) (armed' : is_set t ≡ true) (none : None ≡ key_of_task i (wait_list now q s).items) (e : s' ≡ inserted_into q.root (entry_of i) t s) where
+module _ (now i t : ℕ) (q : Timers) (s s' : KeyedRoots) (f : Fits q s) (keyed : AreKeyed s) (lt : i < length q.expiries) (n : now < 2 ^ 32) (tick : t < 2 ^ 32) (is : t ≡ get_or q.expiries i 0) (armed' : is_set t ≡ true) (none : None ≡ key_of_task i (wait_list now q s).items) (e : s' ≡ inserted_into q.root (entry_of i) t s) where
   pub arms_absent : wait_list now q s' ≡ armed now i (wait_list now q s)
   arms_absent =
       ap (λ (u : KeyedRoots). wait_list now q u) e
-      ∙ insertion_places q s f now i t n tick
-      ∙ sym (arm_absent now i t (wait_list now q s) is armed' (find_task_absent now i q s f (absent_task now i q s f none)))
+      ∙ insertion_places q s f keyed now i t n tick
+      ∙ sym (arm_absent now i t (wait_list now q s) is armed' (find_task_absent now i q s f keyed (absent_task now i q s f keyed none)))
 
   pub fits_absent : Fits q s'
-  fits_absent = rw e (fits_after_insertion q s f i t lt (set_positive t armed') tick (absent_task now i q s f none))
+  fits_absent = rw e (fits_after_insertion q s f i t lt (set_positive t armed') tick)
 
 -- a task that is there and is due earlier moves
-module _ (now i t key : ℕ) (q : Timers) (s s' s'' : KeyedRoots) (f : Fits q s) (lt : i < length q.expiries) (n : now < 2 ^ 32) (tick : t < 2 ^ 32) (is : t ≡ get_or q.expiries i 0) (armed' : is_set t ≡ true) (some : Some key ≡ key_of_task i (wait_list now q s).items) (earlier : int_lt (distance t key) (pos 0) ≡ true) (e : s' ≡ deleted_from q.root (entry_of i) s) (e' : s'' ≡ inserted_into q.root (entry_of i) t s') where
+module _ (now i t key : ℕ) (q : Timers) (s s' s'' : KeyedRoots) (f : Fits q s) (keyed : AreKeyed s) (lt : i < length q.expiries) (n : now < 2 ^ 32) (tick : t < 2 ^ 32) (is : t ≡ get_or q.expiries i 0) (armed' : is_set t ≡ true) (some : Some key ≡ key_of_task i (wait_list now q s).items) (earlier : int_lt (distance t key) (pos 0) ≡ true) (e : s' ≡ deleted_from q.root (entry_of i) s) (e' : s'' ≡ inserted_into q.root (entry_of i) t s') where
   pub fits_between : Fits q s'
   fits_between = rw e (fits_after_deletion q s f (entry_of i))
+
+  pub keyed_between : AreKeyed s'
+  keyed_between = rw e (keyed_roots-deleted q.root (entry_of i) s f.exists keyed)
 
   pub free_between : holds (entry_of i) (root_at q.root s') ≡ false
   free_between = ap (λ (u : KeyedRoots). holds (entry_of i) (root_at q.root u)) e ∙ free_after_deletion q s f (entry_of i)
 
   pub arms_earlier : wait_list now q s'' ≡ armed now i (wait_list now q s)
   arms_earlier =
-      let p = present_task now i key q s f some in
+      let p = present_task now i key q s f keyed some in
       ap (λ (u : KeyedRoots). wait_list now q u) e'
-      ∙ insertion_places q s' fits_between now i t n tick
+      ∙ insertion_places q s' fits_between keyed_between now i t n tick
       ∙ ap (λ (u : KeyedRoots). let w : WaitList = record { items = placed now i t (wait_list now q u).items; expiries = q.expiries } in w) e
       ∙ ap (λ (l : WaitList). let w : WaitList = record { items = placed now i t l.items; expiries = q.expiries } in w) (deletion_takes_out q s f now i)
       ∙ sym (arm_moves now i t key (wait_list now q s) p.item is armed' p.found p.under earlier)
 
   pub fits_earlier : Fits q s''
-  fits_earlier = rw e' (fits_after_insertion q s' fits_between i t lt (set_positive t armed') tick free_between)
+  fits_earlier = rw e' (fits_after_insertion q s' fits_between i t lt (set_positive t armed') tick)
 
   pub changes_earlier : ChangesRoot q.root s s''
   changes_earlier =
@@ -428,9 +420,9 @@ without_absent i (x ∷ xs) h =
       | inr k ↦ rw k (ap (λ (zs : List WaitItem). x ∷ zs) (without_absent i xs (rw k at h)))
     ]
 
-pub unlink_absent : (now i : ℕ) (q : Timers) (s : KeyedRoots) → Fits q s → holds (entry_of i) (root_at q.root s) ≡ false → wait_list now (unset i q) s ≡ unlinked i (wait_list now q s)
-unlink_absent now i q s f free =
-    ap (λ (ys : List WaitItem). let w : WaitList = record { items = ys; expiries = set q.expiries i 0 } in w) (sym (without_absent i (wait_list now q s).items (find_task_absent now i q s f free)))
+pub unlink_absent : (now i : ℕ) (q : Timers) (s : KeyedRoots) → Fits q s → AreKeyed s → holds (entry_of i) (root_at q.root s) ≡ false → wait_list now (unset i q) s ≡ unlinked i (wait_list now q s)
+unlink_absent now i q s f keyed free =
+    ap (λ (ys : List WaitItem). let w : WaitList = record { items = ys; expiries = set q.expiries i 0 } in w) (sym (without_absent i (wait_list now q s).items (find_task_absent now i q s f keyed free)))
 
 pub unlink_present : (now i : ℕ) (q : Timers) (s t : KeyedRoots) → Fits q s → t ≡ deleted_from q.root (entry_of i) s → wait_list now (unset i q) t ≡ unlinked i (wait_list now q s)
 unlink_present now i q s t f e =

@@ -1,6 +1,6 @@
 -- How far a step of a sweep has come.
 use Rattle.std.proofs.Common.{◌≡◌, ℕ, ◌+◌, ◌≤◌, ◌<◌, length, refl, sym, ap, ◌∙◌, arith}
-use Rattle.sched_base.specs.KeyedList.{KeyedRoots, ChangesRoot}
+use Rattle.sched_base.specs.KeyedList.{KeyedRoots, AreKeyed, ChangesRoot}
 use Rattle.queue_model.specs.Sweep.{due}
 use Rattle.queue_model.specs.SweepStep.{first_fired, stepped}
 use Rattle.wait_queue.specs.Timers.{Timers, wait_list, Fits, IsSameQueue, Inserts, insertions_of}
@@ -32,9 +32,9 @@ pub insertions_at : (q r : Timers) (s : KeyedRoots) → r.root ≡ q.root → in
 insertions_at q r s e = ap (λ k. insertions_of (record { root = k; expiries = q.expiries }) s) e
 
 -- the insertions at the end, where something was still due
-pub inserts_fired : (now : ℕ) (q0 : Timers) (s0 : KeyedRoots) (q : Timers) (s t : KeyedRoots) → SoFar now q0 s0 q s → Inserts 1 q s t → Fits q0 s0 → 0 < length (due now (wait_list now q s)) → Inserts (length q0.expiries) q0 s0 t
-inserts_fired now q0 s0 q s t far inserts f0 some =
-    let whole : length (due now (wait_list now q0 s0)) ≤ length q0.expiries = due_bound now q0 s0 f0 in
+pub inserts_fired : (now : ℕ) (q0 : Timers) (s0 : KeyedRoots) (q : Timers) (s t : KeyedRoots) → SoFar now q0 s0 q s → Inserts 1 q s t → Fits q0 s0 → AreKeyed s0 → 0 < length (due now (wait_list now q s)) → Inserts (length q0.expiries) q0 s0 t
+inserts_fired now q0 s0 q s t far inserts f0 keyed some =
+    let whole : length (due now (wait_list now q0 s0)) ≤ length q0.expiries = due_bound now q0 s0 f0 keyed in
     let c : insertions_of q t ≡ insertions_of q0 t = insertions_at q0 q t far.same.root in
     record {
       grows = omega (arith, c, far.grows, inserts.grows);
@@ -42,9 +42,9 @@ inserts_fired now q0 s0 q s t far inserts f0 some =
     }
 
 -- and where the last look left all as it was
-pub inserts_settled : (now : ℕ) (q0 : Timers) (s0 : KeyedRoots) (q : Timers) (s t : KeyedRoots) → SoFar now q0 s0 q s → Fits q0 s0 → t ≡ s → Inserts (length q0.expiries) q0 s0 t
-inserts_settled now q0 s0 q s t far f0 same =
-    let whole : length (due now (wait_list now q0 s0)) ≤ length q0.expiries = due_bound now q0 s0 f0 in
+pub inserts_settled : (now : ℕ) (q0 : Timers) (s0 : KeyedRoots) (q : Timers) (s t : KeyedRoots) → SoFar now q0 s0 q s → Fits q0 s0 → AreKeyed s0 → t ≡ s → Inserts (length q0.expiries) q0 s0 t
+inserts_settled now q0 s0 q s t far f0 keyed same =
+    let whole : length (due now (wait_list now q0 s0)) ≤ length q0.expiries = due_bound now q0 s0 f0 keyed in
     let c : insertions_of q0 t ≡ insertions_of q s = ap (insertions_of q0) same ∙ sym (insertions_at q0 q s far.same.root) in
     record {
       grows = omega (arith, c, far.grows);

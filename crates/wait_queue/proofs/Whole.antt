@@ -2,7 +2,7 @@
 use Rattle.std.proofs.Common.{◌≡◌, ℕ, ◌/◌, ◌^◌, ◌<◌, true, false, not, eqb, List, [], ◌∷◌, ◌++◌, length, map, sym, ap, subst, ◌∙◌}
 use Rattle.std.specs.List.{list_any, AllByRecursion}
 use Rattle.std.proofs.lemmas.Bool.{not-true}
-use Rattle.sched_base.specs.KeyedList.{KeyedItem, KeyedRoots, root_at, IsOnce, is_entry}
+use Rattle.sched_base.specs.KeyedList.{KeyedItem, KeyedRoots, AreKeyed, IsKeyed, root_at, IsOnce, is_entry}
 use Rattle.sched_base.proofs.Inserted.{filter-passes, all-weaker}
 use Rattle.queue_model.specs.WaitList.{WaitItem, WaitList}
 use Rattle.queue_model.specs.Sweep.{due, fired, swept}
@@ -27,19 +27,19 @@ tasks_apart tasks (x ∷ xs) all once =
     let even : x.entry ≡ entry_of (x.entry / 2) = all.0.entry in
     (items_differ (x.entry / 2) xs (tasks_differ tasks (x.entry / 2) xs all.1 (subst (λ e. list_any (is_entry e) xs ≡ false) even once.0)), tasks_apart tasks xs all.1 once.1)
 
-pub ordered_list : (now : ℕ) (q : Timers) (lists : KeyedRoots) → now < 2 ^ 32 → Fits q lists → DueFirst now (wait_list now q lists).items
-ordered_list now q lists n f =
+pub ordered_list : (now : ℕ) (q : Timers) (lists : KeyedRoots) → now < 2 ^ 32 → AreKeyed lists → Fits q lists → DueFirst now (wait_list now q lists).items
+ordered_list now q lists n keyed f =
     let items : List KeyedItem = (root_at q.root lists).items in
     let set' : AllByRecursion (λ (y : KeyedItem). 0 < y.key) items = all-weaker (IsTimer (length q.expiries)) (λ (y : KeyedItem). 0 < y.key) items (λ y t. t.set) f.timers in
-    due_first now (walked now items) (walked_by_distance now items n (ticks_of _ items f.timers) f.rising) (all-walked (λ (y : KeyedItem). 0 < y.key) now items set')
+    due_first now (walked now items) (walked_by_distance now items n (ticks_of _ items f.timers) (keyed.keyed q.root f.exists).rising) (all-walked (λ (y : KeyedItem). 0 < y.key) now items set')
 
-pub whole_sweep : (now : ℕ) (q : Timers) (lists : KeyedRoots) (ids : List ℕ) (new : WaitList) → now < 2 ^ 32 → Fits q lists → Steps now (wait_list now q lists) ids new → (ids ≡ fired now (wait_list now q lists)) × (new ≡ swept now (wait_list now q lists))
-whole_sweep now q lists ids new n f h =
+pub whole_sweep : (now : ℕ) (q : Timers) (lists : KeyedRoots) (ids : List ℕ) (new : WaitList) → now < 2 ^ 32 → AreKeyed lists → Fits q lists → Steps now (wait_list now q lists) ids new → (ids ≡ fired now (wait_list now q lists)) × (new ≡ swept now (wait_list now q lists))
+whole_sweep now q lists ids new n keyed f h =
     let w : WaitList = wait_list now q lists in
     let tasks : ℕ = length q.expiries in
     let items : List KeyedItem = walked now (root_at q.root lists).items in
-    let apart : TasksApart w.items = tasks_apart tasks items (all-walked (IsTimer tasks) now (root_at q.root lists).items f.timers) (once_walked now (root_at q.root lists).items f.once) in
-    let parts : Steps now (list_of (due now w ++ ahead now w.items) q.expiries) ids new = subst (λ (ys : List WaitItem). Steps now (list_of ys q.expiries) ids new) (sym (ordered_list now q lists n f)) h in
+    let apart : TasksApart w.items = tasks_apart tasks items (all-walked (IsTimer tasks) now (root_at q.root lists).items f.timers) (once_walked now (root_at q.root lists).items (keyed.keyed q.root f.exists).once) in
+    let parts : Steps now (list_of (due now w ++ ahead now w.items) q.expiries) ids new = subst (λ (ys : List WaitItem). Steps now (list_of ys q.expiries) ids new) (sym (ordered_list now q lists n keyed f)) h in
     let later : AllByRecursion (λ (y : WaitItem). is_due now y ≡ false) (ahead now w.items) = all-weaker (λ (y : WaitItem). not (is_due now y) ≡ true) (λ (y : WaitItem). is_due now y ≡ false) (ahead now w.items) (λ y k. not-true _ k) (filter-passes (λ (y : WaitItem). not (is_due now y)) w.items) in
     let r = steps_sweep now q.expiries (due now w) (ahead now w.items) ids new (filter-passes (is_due now) w.items) later (apart-filter (is_due now) w.items apart) parts in
     (r.0, r.1 ∙ sym (swept_is now w))

@@ -2,7 +2,7 @@
 use Rattle.std.specs.Prelude.{◌≡◌, ℕ, ◌+◌, ◌*◌, ◌/◌, ◌^◌, ◌<◌, ◌≤◌, Bool, true, false, List, [], ◌∷◌, Option, None, Some, find, map, length}
 use Rattle.std.specs.List.{AllByRecursion}
 use Rattle.std.specs.Option.{option_map}
-use Rattle.sched_base.specs.KeyedList.{KeyedItem, KeyedRoots, root_at, holds, IsFree, IsRising, IsOnce}
+use Rattle.sched_base.specs.KeyedList.{KeyedItem, KeyedRoots, root_at, holds, IsFree}
 use Rattle.queue_model.specs.WaitList.{WaitItem, WaitList, is_of}
 use Rattle.queue_model.specs.Walk.{walked}
 
@@ -40,8 +40,6 @@ pub record Fits (q : Timers) (lists : KeyedRoots) : Type 0 where
   pub exists : q.root < length lists.roots
   pub room : 2 * length q.expiries ≤ lists.entries
   pub numbers : lists.entries ≤ 2 ^ 32
-  pub rising : IsRising (root_at q.root lists).items
-  pub once : IsOnce (root_at q.root lists).items
   pub timers : AllByRecursion (IsTimer (length q.expiries)) (root_at q.root lists).items
   pub apart : (other task : ℕ) → other < length lists.roots → (other ≡ q.root → ⊥) → task < length q.expiries → holds (entry_of task) (root_at other lists) ≡ false
 

@@ -99,6 +99,7 @@ impl WaitQueue {
         ensures insertions { Inserts 1 self.old (K.seen lists.old) (K.seen lists.new) }
         ensures queue { self.new ≡ self.old }
     {
+        lists.stay_keyed();
         let expiry = self.expiries[id.0 as usize];
         if !is_set(expiry) {
             return;
@@ -125,6 +126,7 @@ impl WaitQueue {
         ensures insertions { Inserts 0 self.old (K.seen lists.old) (K.seen lists.new) }
         ensures queue { IsSameQueue self.old self.new }
     {
+        lists.stay_keyed();
         self.expiries[id.0 as usize] = ETERNITY;
         let entry = 2 * id.0;
         if lists.root_of(entry).is_none() {
@@ -145,6 +147,7 @@ impl WaitQueue {
         ensures insertions { Inserts 1 self.old (K.seen lists.old) (K.seen lists.new) }
         ensures queue { IsSameQueue self.old self.new }
     {
+        lists.stay_keyed();
         let Some(entry) = self.first_walked(lists, now) else {
             return Look::Settled;
         };
@@ -178,6 +181,7 @@ impl WaitQueue {
         ensures insertions { Inserts (length self.old.expiries) self.old (K.seen lists.old) (K.seen lists.new) }
         ensures queue { IsSameQueue self.old self.new }
     {
+        lists.stay_keyed();
         loop {
             match self.look(lists, now) {
                 Look::Settled => return None,
@@ -192,6 +196,7 @@ impl WaitQueue {
         requires { Fits self.now (K.seen lists.now) }
         ensures { result ≡ first_key (wait_list now self.now (K.seen lists.now)).items }
     {
+        lists.stay_keyed();
         match self.first_walked(lists, now) {
             Some(entry) => Some(lists.key_of(entry)),
             None => None,
@@ -204,6 +209,7 @@ impl WaitQueue {
         requires exists { id.0 < length self.now.expiries }
         ensures { (now : ℕ) → result ≡ key_of_task id.0 (wait_list now self.now (K.seen lists.now)).items }
     {
+        lists.stay_keyed();
         let entry = 2 * id.0;
         if lists.root_of(entry).is_none() {
             return None;

@@ -29,7 +29,7 @@ overflow_add-self-2 g c =
     let at_nice : distance key (now_of (q.count + 1)) ≡ c.args.nice *ℤ pos q.depth = said in
     let close : IsClose q.depth (now_of (q.count + 1)) key = rw at_nice (scaled c.args.nice q.depth c.requires.not_low c.requires.not_high) in
     let tick : key < 2 ^ 32 = omega arith in
-    let few : length (in_order q lists) ≤ 2 ^ 20 = few_waiting q lists c.requires.fits c.requires.few i key c.args.nice c.requires.exists c.requires.absent tick at_nice close in
+    let few : length (in_order q lists) ≤ 2 ^ 20 = few_waiting q lists c.requires.fits c.stay_keyed.ensures c.requires.few i key c.args.nice c.requires.exists c.requires.absent tick at_nice close in
     let wait : length (in_order q lists) ≡ q.waiting = c.requires.fits.waiting in
     let same_waiting : c.self.inside.waiting ≡ q.waiting = ap (λ (x : Runners). x.waiting) c.self.view_is in
     let below : c.self.inside.waiting + 1 < 2 ^ 32 = omega arith in
@@ -51,7 +51,7 @@ returns-clause-list g c =
     let tick : key < 2 ^ 32 = omega arith in
     let after' : KeyedRoots = g.K.KeyedLists.seen c.insert.new.self in
     let e : after' ≡ inserted_into q.root (entry_of i) key lists = rw same_root' at c.insert.ensures in
-    let at_new = ap (λ (u : KeyedRoots). run_list (raised q) u) e ∙ arrives q lists c.requires.fits c.requires.few i key c.args.nice c.requires.exists c.requires.absent tick at_nice close in
+    let at_new = ap (λ (u : KeyedRoots). run_list (raised q) u) e ∙ arrives q lists c.requires.fits c.stay_keyed.ensures c.requires.few i key c.args.nice c.requires.exists c.requires.absent tick at_nice close in
     subst (λ (x : Runners). run_list (raised x) after' ≡ arrived q.depth i c.args.nice (run_list q lists)) (sym c.self.view_is) at_new
 
 pub returns-clause-fits : goal.returns-clause-fits
@@ -70,5 +70,5 @@ returns-clause-fits g c =
     let tick : key < 2 ^ 32 = omega arith in
     let after' : KeyedRoots = g.K.KeyedLists.seen c.insert.new.self in
     let e : after' ≡ inserted_into q.root (entry_of i) key lists = rw same_root' at c.insert.ensures in
-    let new : Fits (raised q) after' = rw e (fits_after q lists c.requires.fits c.requires.few i key c.args.nice c.requires.exists c.requires.absent tick at_nice close) in
+    let new : Fits (raised q) after' = rw e (fits_after q lists c.requires.fits c.stay_keyed.ensures c.requires.few i key c.args.nice c.requires.exists c.requires.absent tick at_nice close) in
     subst (λ (x : Runners). Fits (raised x) after') (sym c.self.view_is) new

@@ -11,7 +11,7 @@ delete-requires g c =
     let lists : KeyedRoots = g.K.KeyedLists.seen c.args.lists.now in
     let entry : ℕ = c.in-Some.entry in
     let h = c.in-Some.ensures in
-    (q.root, stands q lists c.requires entry h)
+    (q.root, stands q lists c.requires c.stay_keyed.ensures entry h)
 
 pub returns-clause-list : goal.returns-clause-list
 returns-clause-list g c =
@@ -20,8 +20,8 @@ returns-clause-list g c =
     let entry : ℕ = c.in-Some.entry in
     let h = c.in-Some.ensures in
     let after : KeyedRoots = g.K.KeyedLists.seen c.delete.new.self in
-    let out : after ≡ deleted_from q.root entry lists = c.delete.ensures q.root (stands q lists c.requires entry h) in
-    subst (λ (x : Runners). run_list (lowered x) after ≡ without_least 1 (run_list q lists)) (sym c.self.view_is) (list_out q lists c.requires entry h after out)
+    let out : after ≡ deleted_from q.root entry lists = c.delete.ensures q.root (stands q lists c.requires c.stay_keyed.ensures entry h) in
+    subst (λ (x : Runners). run_list (lowered x) after ≡ without_least 1 (run_list q lists)) (sym c.self.view_is) (list_out q lists c.requires c.stay_keyed.ensures entry h after out)
 
 pub returns-clause-fits : goal.returns-clause-fits
 returns-clause-fits g c =
@@ -30,8 +30,8 @@ returns-clause-fits g c =
     let entry : ℕ = c.in-Some.entry in
     let h = c.in-Some.ensures in
     let after : KeyedRoots = g.K.KeyedLists.seen c.delete.new.self in
-    let out : after ≡ deleted_from q.root entry lists = c.delete.ensures q.root (stands q lists c.requires entry h) in
-    subst (λ (x : Runners). Fits (lowered x) after) (sym c.self.view_is) (fits_out q lists c.requires entry h after out)
+    let out : after ≡ deleted_from q.root entry lists = c.delete.ensures q.root (stands q lists c.requires c.stay_keyed.ensures entry h) in
+    subst (λ (x : Runners). Fits (lowered x) after) (sym c.self.view_is) (fits_out q lists c.requires c.stay_keyed.ensures entry h after out)
 
 pub returns-clause-others : goal.returns-clause-others
 returns-clause-others g c =
@@ -40,8 +40,8 @@ returns-clause-others g c =
     let entry : ℕ = c.in-Some.entry in
     let h = c.in-Some.ensures in
     let after : KeyedRoots = g.K.KeyedLists.seen c.delete.new.self in
-    let out : after ≡ deleted_from q.root entry lists = c.delete.ensures q.root (stands q lists c.requires entry h) in
-    changes_out q lists c.requires entry h after out
+    let out : after ≡ deleted_from q.root entry lists = c.delete.ensures q.root (stands q lists c.requires c.stay_keyed.ensures entry h) in
+    changes_out q lists c.requires c.stay_keyed.ensures entry h after out
 
 pub returns-clause-insertions : goal.returns-clause-insertions
 returns-clause-insertions g c =
@@ -50,5 +50,5 @@ returns-clause-insertions g c =
     let entry : ℕ = c.in-Some.entry in
     let h = c.in-Some.ensures in
     let after : KeyedRoots = g.K.KeyedLists.seen c.delete.new.self in
-    let out : after ≡ deleted_from q.root entry lists = c.delete.ensures q.root (stands q lists c.requires entry h) in
-    ap (λ (l : KeyedList). l.insertions) (root_out q lists c.requires entry h after out)
+    let out : after ≡ deleted_from q.root entry lists = c.delete.ensures q.root (stands q lists c.requires c.stay_keyed.ensures entry h) in
+    ap (λ (l : KeyedList). l.insertions) (root_out q lists c.requires c.stay_keyed.ensures entry h after out)

@@ -48,7 +48,7 @@ invariant_of-self c =
     let free = free_rows _ _ _ c.args.self.now c.self.view_is c.args.entry c.self.invariant.0 c.requires.free in
     let root : c.args.root < length c.self.inside.insertions.items = omega (arith, c.requires.root_exists, roots_of _ _ _ c.args.self.now c.self.view_is) in
     let entry : c.args.entry < c.self.inside.entries = omega (arith, c.requires.entry_exists, ap (λ (s : KeyedRoots). s.entries) c.self.view_is) in
-    let sound = sound-insert _ _ c.unwrap_or-place.result (record { root = c.args.root; key = c.args.key; entry = c.args.entry }) _ _ (stands_there c) c.self.invariant.0 free root entry in
+    let sound = sound-insert _ _ c.unwrap_or-place.result c.args.root c.args.entry c.args.key _ (stands_there c) c.self.invariant.0 free root entry in
     (rw (length-set c.self.inside.insertions.items c.args.root (c.index_mut.result.now + 1), one_more c) sound, omega (arith, c.self.invariant.1, c.insert.ensures.capacity))
 
 pub returns : goal.returns

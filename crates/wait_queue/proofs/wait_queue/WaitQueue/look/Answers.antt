@@ -14,7 +14,7 @@ key_of-requires g c =
     let n : c.args.now < 2 ^ 32 = omega arith in
     let entry : ℕ = c.in-Some.entry in
     let h = c.in-Some.ensures in
-    let w = first c.args.now entry q lists c.requires.fits n h in
+    let w = first c.args.now entry q lists c.requires.fits c.stay_keyed.ensures n h in
     (q.root, w.stands)
 
 pub returns-then-not-is_expired-clause-saw : goal.returns-then-not-is_expired-clause-saw
@@ -24,9 +24,9 @@ returns-then-not-is_expired-clause-saw g c =
     let n : c.args.now < 2 ^ 32 = omega arith in
     let entry : ℕ = c.in-Some.entry in
     let h = c.in-Some.ensures in
-    let w = first c.args.now entry q lists c.requires.fits n h in
+    let w = first c.args.now entry q lists c.requires.fits c.stay_keyed.ensures n h in
     let e = c.key_of.ensures q.root w.stands in
-    settles_ahead c.args.now entry q lists c.requires.fits n h c.key_of.result e (sym c.if-not-is_expired.ensures)
+    settles_ahead c.args.now entry q lists c.requires.fits c.stay_keyed.ensures n h c.key_of.result e (sym c.if-not-is_expired.ensures)
 
 pub delete-requires : goal.delete-requires
 delete-requires g c =
@@ -35,7 +35,7 @@ delete-requires g c =
     let n : c.args.now < 2 ^ 32 = omega arith in
     let entry : ℕ = c.in-Some.entry in
     let h = c.in-Some.ensures in
-    let w = first c.args.now entry q lists c.requires.fits n h in
+    let w = first c.args.now entry q lists c.requires.fits c.stay_keyed.ensures n h in
     (q.root, w.stands)
 
 pub index-expiry-requires : goal.index-expiry-requires
@@ -45,8 +45,8 @@ index-expiry-requires g c =
     let n : c.args.now < 2 ^ 32 = omega arith in
     let entry : ℕ = c.in-Some.entry in
     let h = c.in-Some.ensures in
-    let w = first c.args.now entry q lists c.requires.fits n h in
-    let exists = task_exists c.args.now entry q lists c.requires.fits n h in
+    let w = first c.args.now entry q lists c.requires.fits c.stay_keyed.ensures n h in
+    let exists = task_exists c.args.now entry q lists c.requires.fits c.stay_keyed.ensures n h in
     omega (arith, exists, ap (λ (x : Timers). length x.expiries) c.self.view_is, c.self.inside.expiries.ok)
 
 pub index_mut-requires : goal.index_mut-requires
@@ -56,8 +56,8 @@ index_mut-requires g c =
     let n : c.args.now < 2 ^ 32 = omega arith in
     let entry : ℕ = c.in-Some.entry in
     let h = c.in-Some.ensures in
-    let w = first c.args.now entry q lists c.requires.fits n h in
-    let exists = task_exists c.args.now entry q lists c.requires.fits n h in
+    let w = first c.args.now entry q lists c.requires.fits c.stay_keyed.ensures n h in
+    let exists = task_exists c.args.now entry q lists c.requires.fits c.stay_keyed.ensures n h in
     omega (arith, exists, ap (λ (x : Timers). length x.expiries) c.self.view_is, c.self.inside.expiries.ok)
 
 pub returns-then-is_expired-clause-saw : goal.returns-then-is_expired-clause-saw
@@ -67,16 +67,16 @@ returns-then-is_expired-clause-saw g c =
     let n : c.args.now < 2 ^ 32 = omega arith in
     let entry : ℕ = c.in-Some.entry in
     let h = c.in-Some.ensures in
-    let w = first c.args.now entry q lists c.requires.fits n h in
+    let w = first c.args.now entry q lists c.requires.fits c.stay_keyed.ensures n h in
     let k : ℕ = c.key_of.result in
     let e = c.key_of.ensures q.root w.stands in
     let d : is_expired k c.args.now ≡ true = sym c.if-not-is_expired.ensures in
     let s' : KeyedRoots = g.K.KeyedLists.seen c.delete.new.self in
     let out : s' ≡ deleted_from q.root entry lists = c.delete.ensures q.root w.stands in
     let t : ℕ = c.index-expiry.result.now in
-    let exists = task_exists c.args.now entry q lists c.requires.fits n h in
+    let exists = task_exists c.args.now entry q lists c.requires.fits c.stay_keyed.ensures n h in
     let is : t ≡ get_or q.expiries (entry / 2) 0 = expiry_is q c.self.inside.root c.self.inside.expiries.items (entry / 2) t c.self.view_is exists c.index-expiry.ensures in
-    subst (λ (x : Timers). Fires (entry / 2) c.args.now (wait_list c.args.now q lists) (wait_list c.args.now (unset (entry / 2) x) s')) (sym c.self.view_is) (fires_first c.args.now entry q lists c.requires.fits n h k e d s' out t is (sym c.if-is_expired.ensures))
+    subst (λ (x : Timers). Fires (entry / 2) c.args.now (wait_list c.args.now q lists) (wait_list c.args.now (unset (entry / 2) x) s')) (sym c.self.view_is) (fires_first c.args.now entry q lists c.requires.fits c.stay_keyed.ensures n h k e d s' out t is (sym c.if-is_expired.ensures))
 
 pub returns-then-is_expired-clause-fits : goal.returns-then-is_expired-clause-fits
 returns-then-is_expired-clause-fits g c =
@@ -85,13 +85,13 @@ returns-then-is_expired-clause-fits g c =
     let n : c.args.now < 2 ^ 32 = omega arith in
     let entry : ℕ = c.in-Some.entry in
     let h = c.in-Some.ensures in
-    let w = first c.args.now entry q lists c.requires.fits n h in
+    let w = first c.args.now entry q lists c.requires.fits c.stay_keyed.ensures n h in
     let k : ℕ = c.key_of.result in
     let e = c.key_of.ensures q.root w.stands in
     let d : is_expired k c.args.now ≡ true = sym c.if-not-is_expired.ensures in
     let s' : KeyedRoots = g.K.KeyedLists.seen c.delete.new.self in
     let out : s' ≡ deleted_from q.root entry lists = c.delete.ensures q.root w.stands in
-    subst (λ (x : Timers). Fits (unset (entry / 2) x) s') (sym c.self.view_is) (fits_fired c.args.now entry q lists c.requires.fits n h k e d s' out)
+    subst (λ (x : Timers). Fits (unset (entry / 2) x) s') (sym c.self.view_is) (fits_fired c.args.now entry q lists c.requires.fits c.stay_keyed.ensures n h k e d s' out)
 
 pub returns-then-is_expired-clause-others : goal.returns-then-is_expired-clause-others
 returns-then-is_expired-clause-others g c =
@@ -100,13 +100,13 @@ returns-then-is_expired-clause-others g c =
     let n : c.args.now < 2 ^ 32 = omega arith in
     let entry : ℕ = c.in-Some.entry in
     let h = c.in-Some.ensures in
-    let w = first c.args.now entry q lists c.requires.fits n h in
+    let w = first c.args.now entry q lists c.requires.fits c.stay_keyed.ensures n h in
     let k : ℕ = c.key_of.result in
     let e = c.key_of.ensures q.root w.stands in
     let d : is_expired k c.args.now ≡ true = sym c.if-not-is_expired.ensures in
     let s' : KeyedRoots = g.K.KeyedLists.seen c.delete.new.self in
     let out : s' ≡ deleted_from q.root entry lists = c.delete.ensures q.root w.stands in
-    changes_out c.args.now entry q lists c.requires.fits n h k e d s' out
+    changes_out c.args.now entry q lists c.requires.fits c.stay_keyed.ensures n h k e d s' out
 
 pub returns-then-is_expired-clause-insertions : goal.returns-then-is_expired-clause-insertions
 returns-then-is_expired-clause-insertions g c =
@@ -115,13 +115,13 @@ returns-then-is_expired-clause-insertions g c =
     let n : c.args.now < 2 ^ 32 = omega arith in
     let entry : ℕ = c.in-Some.entry in
     let h = c.in-Some.ensures in
-    let w = first c.args.now entry q lists c.requires.fits n h in
+    let w = first c.args.now entry q lists c.requires.fits c.stay_keyed.ensures n h in
     let k : ℕ = c.key_of.result in
     let e = c.key_of.ensures q.root w.stands in
     let d : is_expired k c.args.now ≡ true = sym c.if-not-is_expired.ensures in
     let s' : KeyedRoots = g.K.KeyedLists.seen c.delete.new.self in
     let out : s' ≡ deleted_from q.root entry lists = c.delete.ensures q.root w.stands in
-    inserts_out c.args.now entry q lists c.requires.fits n h k e d s' out
+    inserts_out c.args.now entry q lists c.requires.fits c.stay_keyed.ensures n h k e d s' out
 
 pub returns-then-not-is_set-clause-saw : goal.returns-then-not-is_set-clause-saw
 returns-then-not-is_set-clause-saw g c =
@@ -130,16 +130,16 @@ returns-then-not-is_set-clause-saw g c =
     let n : c.args.now < 2 ^ 32 = omega arith in
     let entry : ℕ = c.in-Some.entry in
     let h = c.in-Some.ensures in
-    let w = first c.args.now entry q lists c.requires.fits n h in
+    let w = first c.args.now entry q lists c.requires.fits c.stay_keyed.ensures n h in
     let k : ℕ = c.key_of.result in
     let e = c.key_of.ensures q.root w.stands in
     let d : is_expired k c.args.now ≡ true = sym c.if-not-is_expired.ensures in
     let s' : KeyedRoots = g.K.KeyedLists.seen c.delete.new.self in
     let out : s' ≡ deleted_from q.root entry lists = c.delete.ensures q.root w.stands in
     let t : ℕ = c.index-expiry.result.now in
-    let exists = task_exists c.args.now entry q lists c.requires.fits n h in
+    let exists = task_exists c.args.now entry q lists c.requires.fits c.stay_keyed.ensures n h in
     let is : t ≡ get_or q.expiries (entry / 2) 0 = expiry_is q c.self.inside.root c.self.inside.expiries.items (entry / 2) t c.self.view_is exists c.index-expiry.ensures in
-    passes_forgotten c.args.now entry q lists c.requires.fits n h k e d s' out t is (sym c.if-not-is_set.ensures)
+    passes_forgotten c.args.now entry q lists c.requires.fits c.stay_keyed.ensures n h k e d s' out t is (sym c.if-not-is_set.ensures)
 
 pub returns-then-not-is_set-clause-fits : goal.returns-then-not-is_set-clause-fits
 returns-then-not-is_set-clause-fits g c =
@@ -148,13 +148,13 @@ returns-then-not-is_set-clause-fits g c =
     let n : c.args.now < 2 ^ 32 = omega arith in
     let entry : ℕ = c.in-Some.entry in
     let h = c.in-Some.ensures in
-    let w = first c.args.now entry q lists c.requires.fits n h in
+    let w = first c.args.now entry q lists c.requires.fits c.stay_keyed.ensures n h in
     let k : ℕ = c.key_of.result in
     let e = c.key_of.ensures q.root w.stands in
     let d : is_expired k c.args.now ≡ true = sym c.if-not-is_expired.ensures in
     let s' : KeyedRoots = g.K.KeyedLists.seen c.delete.new.self in
     let out : s' ≡ deleted_from q.root entry lists = c.delete.ensures q.root w.stands in
-    fits_out c.args.now entry q lists c.requires.fits n h k e d s' out
+    fits_out c.args.now entry q lists c.requires.fits c.stay_keyed.ensures n h k e d s' out
 
 pub returns-then-not-is_set-clause-others : goal.returns-then-not-is_set-clause-others
 returns-then-not-is_set-clause-others g c =
@@ -163,13 +163,13 @@ returns-then-not-is_set-clause-others g c =
     let n : c.args.now < 2 ^ 32 = omega arith in
     let entry : ℕ = c.in-Some.entry in
     let h = c.in-Some.ensures in
-    let w = first c.args.now entry q lists c.requires.fits n h in
+    let w = first c.args.now entry q lists c.requires.fits c.stay_keyed.ensures n h in
     let k : ℕ = c.key_of.result in
     let e = c.key_of.ensures q.root w.stands in
     let d : is_expired k c.args.now ≡ true = sym c.if-not-is_expired.ensures in
     let s' : KeyedRoots = g.K.KeyedLists.seen c.delete.new.self in
     let out : s' ≡ deleted_from q.root entry lists = c.delete.ensures q.root w.stands in
-    changes_out c.args.now entry q lists c.requires.fits n h k e d s' out
+    changes_out c.args.now entry q lists c.requires.fits c.stay_keyed.ensures n h k e d s' out
 
 pub returns-then-not-is_set-clause-insertions : goal.returns-then-not-is_set-clause-insertions
 returns-then-not-is_set-clause-insertions g c =
@@ -178,13 +178,13 @@ returns-then-not-is_set-clause-insertions g c =
     let n : c.args.now < 2 ^ 32 = omega arith in
     let entry : ℕ = c.in-Some.entry in
     let h = c.in-Some.ensures in
-    let w = first c.args.now entry q lists c.requires.fits n h in
+    let w = first c.args.now entry q lists c.requires.fits c.stay_keyed.ensures n h in
     let k : ℕ = c.key_of.result in
     let e = c.key_of.ensures q.root w.stands in
     let d : is_expired k c.args.now ≡ true = sym c.if-not-is_expired.ensures in
     let s' : KeyedRoots = g.K.KeyedLists.seen c.delete.new.self in
     let out : s' ≡ deleted_from q.root entry lists = c.delete.ensures q.root w.stands in
-    inserts_out c.args.now entry q lists c.requires.fits n h k e d s' out
+    inserts_out c.args.now entry q lists c.requires.fits c.stay_keyed.ensures n h k e d s' out
 
 pub insert-requires-clause-root_exists : goal.insert-requires-clause-root_exists
 insert-requires-clause-root_exists g c =
@@ -193,20 +193,20 @@ insert-requires-clause-root_exists g c =
     let n : c.args.now < 2 ^ 32 = omega arith in
     let entry : ℕ = c.in-Some.entry in
     let h = c.in-Some.ensures in
-    let w = first c.args.now entry q lists c.requires.fits n h in
+    let w = first c.args.now entry q lists c.requires.fits c.stay_keyed.ensures n h in
     let k : ℕ = c.key_of.result in
     let e = c.key_of.ensures q.root w.stands in
     let d : is_expired k c.args.now ≡ true = sym c.if-not-is_expired.ensures in
     let s' : KeyedRoots = g.K.KeyedLists.seen c.delete.new.self in
     let out : s' ≡ deleted_from q.root entry lists = c.delete.ensures q.root w.stands in
     let t : ℕ = c.index-expiry.result.now in
-    let exists = task_exists c.args.now entry q lists c.requires.fits n h in
+    let exists = task_exists c.args.now entry q lists c.requires.fits c.stay_keyed.ensures n h in
     let is : t ≡ get_or q.expiries (entry / 2) 0 = expiry_is q c.self.inside.root c.self.inside.expiries.items (entry / 2) t c.self.view_is exists c.index-expiry.ensures in
     let tick : t < 2 ^ 32 = omega arith in
     let later : is_expired t c.args.now ≡ false = sym c.if-is_expired.ensures in
     let armed : is_set t ≡ true = sym c.if-not-is_set.ensures in
     let same : c.self.inside.root ≡ q.root = ap (λ (x : Timers). x.root) c.self.view_is in
-    let f = fits_out c.args.now entry q lists c.requires.fits n h k e d s' out in
+    let f = fits_out c.args.now entry q lists c.requires.fits c.stay_keyed.ensures n h k e d s' out in
     rw same f.exists
 
 pub insert-requires-clause-entry_exists : goal.insert-requires-clause-entry_exists
@@ -216,20 +216,20 @@ insert-requires-clause-entry_exists g c =
     let n : c.args.now < 2 ^ 32 = omega arith in
     let entry : ℕ = c.in-Some.entry in
     let h = c.in-Some.ensures in
-    let w = first c.args.now entry q lists c.requires.fits n h in
+    let w = first c.args.now entry q lists c.requires.fits c.stay_keyed.ensures n h in
     let k : ℕ = c.key_of.result in
     let e = c.key_of.ensures q.root w.stands in
     let d : is_expired k c.args.now ≡ true = sym c.if-not-is_expired.ensures in
     let s' : KeyedRoots = g.K.KeyedLists.seen c.delete.new.self in
     let out : s' ≡ deleted_from q.root entry lists = c.delete.ensures q.root w.stands in
     let t : ℕ = c.index-expiry.result.now in
-    let exists = task_exists c.args.now entry q lists c.requires.fits n h in
+    let exists = task_exists c.args.now entry q lists c.requires.fits c.stay_keyed.ensures n h in
     let is : t ≡ get_or q.expiries (entry / 2) 0 = expiry_is q c.self.inside.root c.self.inside.expiries.items (entry / 2) t c.self.view_is exists c.index-expiry.ensures in
     let tick : t < 2 ^ 32 = omega arith in
     let later : is_expired t c.args.now ≡ false = sym c.if-is_expired.ensures in
     let armed : is_set t ≡ true = sym c.if-not-is_set.ensures in
     let same : c.self.inside.root ≡ q.root = ap (λ (x : Timers). x.root) c.self.view_is in
-    exists_out c.args.now entry q lists c.requires.fits n h k e d s' out
+    exists_out c.args.now entry q lists c.requires.fits c.stay_keyed.ensures n h k e d s' out
 
 pub insert-requires-clause-free : goal.insert-requires-clause-free
 insert-requires-clause-free g c =
@@ -238,20 +238,20 @@ insert-requires-clause-free g c =
     let n : c.args.now < 2 ^ 32 = omega arith in
     let entry : ℕ = c.in-Some.entry in
     let h = c.in-Some.ensures in
-    let w = first c.args.now entry q lists c.requires.fits n h in
+    let w = first c.args.now entry q lists c.requires.fits c.stay_keyed.ensures n h in
     let k : ℕ = c.key_of.result in
     let e = c.key_of.ensures q.root w.stands in
     let d : is_expired k c.args.now ≡ true = sym c.if-not-is_expired.ensures in
     let s' : KeyedRoots = g.K.KeyedLists.seen c.delete.new.self in
     let out : s' ≡ deleted_from q.root entry lists = c.delete.ensures q.root w.stands in
     let t : ℕ = c.index-expiry.result.now in
-    let exists = task_exists c.args.now entry q lists c.requires.fits n h in
+    let exists = task_exists c.args.now entry q lists c.requires.fits c.stay_keyed.ensures n h in
     let is : t ≡ get_or q.expiries (entry / 2) 0 = expiry_is q c.self.inside.root c.self.inside.expiries.items (entry / 2) t c.self.view_is exists c.index-expiry.ensures in
     let tick : t < 2 ^ 32 = omega arith in
     let later : is_expired t c.args.now ≡ false = sym c.if-is_expired.ensures in
     let armed : is_set t ≡ true = sym c.if-not-is_set.ensures in
     let same : c.self.inside.root ≡ q.root = ap (λ (x : Timers). x.root) c.self.view_is in
-    free_out c.args.now entry q lists c.requires.fits n h k e d s' out
+    free_out c.args.now entry q lists c.requires.fits c.stay_keyed.ensures n h k e d s' out
 
 pub insert-requires-clause-room : goal.insert-requires-clause-room
 insert-requires-clause-room g c =
@@ -260,21 +260,21 @@ insert-requires-clause-room g c =
     let n : c.args.now < 2 ^ 32 = omega arith in
     let entry : ℕ = c.in-Some.entry in
     let h = c.in-Some.ensures in
-    let w = first c.args.now entry q lists c.requires.fits n h in
+    let w = first c.args.now entry q lists c.requires.fits c.stay_keyed.ensures n h in
     let k : ℕ = c.key_of.result in
     let e = c.key_of.ensures q.root w.stands in
     let d : is_expired k c.args.now ≡ true = sym c.if-not-is_expired.ensures in
     let s' : KeyedRoots = g.K.KeyedLists.seen c.delete.new.self in
     let out : s' ≡ deleted_from q.root entry lists = c.delete.ensures q.root w.stands in
     let t : ℕ = c.index-expiry.result.now in
-    let exists = task_exists c.args.now entry q lists c.requires.fits n h in
+    let exists = task_exists c.args.now entry q lists c.requires.fits c.stay_keyed.ensures n h in
     let is : t ≡ get_or q.expiries (entry / 2) 0 = expiry_is q c.self.inside.root c.self.inside.expiries.items (entry / 2) t c.self.view_is exists c.index-expiry.ensures in
     let tick : t < 2 ^ 32 = omega arith in
     let later : is_expired t c.args.now ≡ false = sym c.if-is_expired.ensures in
     let armed : is_set t ≡ true = sym c.if-not-is_set.ensures in
     let same : c.self.inside.root ≡ q.root = ap (λ (x : Timers). x.root) c.self.view_is in
-    let count : insertions_of q s' ≡ insertions_of q lists = count_out c.args.now entry q lists c.requires.fits n h k e d s' out in
-    let some = ap length (due_old c.args.now entry q lists c.requires.fits n h k e d s' out) in
+    let count : insertions_of q s' ≡ insertions_of q lists = count_out c.args.now entry q lists c.requires.fits c.stay_keyed.ensures n h k e d s' out in
+    let some = ap length (due_old c.args.now entry q lists c.requires.fits c.stay_keyed.ensures n h k e d s' out) in
     let room : insertions_of q s' + 1 < 2 ^ 63 = omega (arith, count, some, c.requires.room) in
     rw same room
 
@@ -285,14 +285,14 @@ returns-clause-saw g c =
     let n : c.args.now < 2 ^ 32 = omega arith in
     let entry : ℕ = c.in-Some.entry in
     let h = c.in-Some.ensures in
-    let w = first c.args.now entry q lists c.requires.fits n h in
+    let w = first c.args.now entry q lists c.requires.fits c.stay_keyed.ensures n h in
     let k : ℕ = c.key_of.result in
     let e = c.key_of.ensures q.root w.stands in
     let d : is_expired k c.args.now ≡ true = sym c.if-not-is_expired.ensures in
     let s' : KeyedRoots = g.K.KeyedLists.seen c.delete.new.self in
     let out : s' ≡ deleted_from q.root entry lists = c.delete.ensures q.root w.stands in
     let t : ℕ = c.index-expiry.result.now in
-    let exists = task_exists c.args.now entry q lists c.requires.fits n h in
+    let exists = task_exists c.args.now entry q lists c.requires.fits c.stay_keyed.ensures n h in
     let is : t ≡ get_or q.expiries (entry / 2) 0 = expiry_is q c.self.inside.root c.self.inside.expiries.items (entry / 2) t c.self.view_is exists c.index-expiry.ensures in
     let tick : t < 2 ^ 32 = omega arith in
     let later : is_expired t c.args.now ≡ false = sym c.if-is_expired.ensures in
@@ -300,7 +300,7 @@ returns-clause-saw g c =
     let same : c.self.inside.root ≡ q.root = ap (λ (x : Timers). x.root) c.self.view_is in
     let s'' : KeyedRoots = g.K.KeyedLists.seen c.insert.new.self in
     let back : s'' ≡ inserted_into q.root entry t s' = rw same at c.insert.ensures in
-    passes_back c.args.now entry q lists c.requires.fits n h k e d s' out t is tick later armed s'' back
+    passes_back c.args.now entry q lists c.requires.fits c.stay_keyed.ensures n h k e d s' out t is tick later armed s'' back
 
 pub returns-clause-fits : goal.returns-clause-fits
 returns-clause-fits g c =
@@ -309,14 +309,14 @@ returns-clause-fits g c =
     let n : c.args.now < 2 ^ 32 = omega arith in
     let entry : ℕ = c.in-Some.entry in
     let h = c.in-Some.ensures in
-    let w = first c.args.now entry q lists c.requires.fits n h in
+    let w = first c.args.now entry q lists c.requires.fits c.stay_keyed.ensures n h in
     let k : ℕ = c.key_of.result in
     let e = c.key_of.ensures q.root w.stands in
     let d : is_expired k c.args.now ≡ true = sym c.if-not-is_expired.ensures in
     let s' : KeyedRoots = g.K.KeyedLists.seen c.delete.new.self in
     let out : s' ≡ deleted_from q.root entry lists = c.delete.ensures q.root w.stands in
     let t : ℕ = c.index-expiry.result.now in
-    let exists = task_exists c.args.now entry q lists c.requires.fits n h in
+    let exists = task_exists c.args.now entry q lists c.requires.fits c.stay_keyed.ensures n h in
     let is : t ≡ get_or q.expiries (entry / 2) 0 = expiry_is q c.self.inside.root c.self.inside.expiries.items (entry / 2) t c.self.view_is exists c.index-expiry.ensures in
     let tick : t < 2 ^ 32 = omega arith in
     let later : is_expired t c.args.now ≡ false = sym c.if-is_expired.ensures in
@@ -324,7 +324,7 @@ returns-clause-fits g c =
     let same : c.self.inside.root ≡ q.root = ap (λ (x : Timers). x.root) c.self.view_is in
     let s'' : KeyedRoots = g.K.KeyedLists.seen c.insert.new.self in
     let back : s'' ≡ inserted_into q.root entry t s' = rw same at c.insert.ensures in
-    fits_back c.args.now entry q lists c.requires.fits n h k e d s' out t is tick later armed s'' back
+    fits_back c.args.now entry q lists c.requires.fits c.stay_keyed.ensures n h k e d s' out t is tick later armed s'' back
 
 pub returns-clause-others : goal.returns-clause-others
 returns-clause-others g c =
@@ -333,14 +333,14 @@ returns-clause-others g c =
     let n : c.args.now < 2 ^ 32 = omega arith in
     let entry : ℕ = c.in-Some.entry in
     let h = c.in-Some.ensures in
-    let w = first c.args.now entry q lists c.requires.fits n h in
+    let w = first c.args.now entry q lists c.requires.fits c.stay_keyed.ensures n h in
     let k : ℕ = c.key_of.result in
     let e = c.key_of.ensures q.root w.stands in
     let d : is_expired k c.args.now ≡ true = sym c.if-not-is_expired.ensures in
     let s' : KeyedRoots = g.K.KeyedLists.seen c.delete.new.self in
     let out : s' ≡ deleted_from q.root entry lists = c.delete.ensures q.root w.stands in
     let t : ℕ = c.index-expiry.result.now in
-    let exists = task_exists c.args.now entry q lists c.requires.fits n h in
+    let exists = task_exists c.args.now entry q lists c.requires.fits c.stay_keyed.ensures n h in
     let is : t ≡ get_or q.expiries (entry / 2) 0 = expiry_is q c.self.inside.root c.self.inside.expiries.items (entry / 2) t c.self.view_is exists c.index-expiry.ensures in
     let tick : t < 2 ^ 32 = omega arith in
     let later : is_expired t c.args.now ≡ false = sym c.if-is_expired.ensures in
@@ -348,7 +348,7 @@ returns-clause-others g c =
     let same : c.self.inside.root ≡ q.root = ap (λ (x : Timers). x.root) c.self.view_is in
     let s'' : KeyedRoots = g.K.KeyedLists.seen c.insert.new.self in
     let back : s'' ≡ inserted_into q.root entry t s' = rw same at c.insert.ensures in
-    changes_back c.args.now entry q lists c.requires.fits n h k e d s' out t is tick later armed s'' back
+    changes_back c.args.now entry q lists c.requires.fits c.stay_keyed.ensures n h k e d s' out t is tick later armed s'' back
 
 pub returns-clause-insertions : goal.returns-clause-insertions
 returns-clause-insertions g c =
@@ -357,14 +357,14 @@ returns-clause-insertions g c =
     let n : c.args.now < 2 ^ 32 = omega arith in
     let entry : ℕ = c.in-Some.entry in
     let h = c.in-Some.ensures in
-    let w = first c.args.now entry q lists c.requires.fits n h in
+    let w = first c.args.now entry q lists c.requires.fits c.stay_keyed.ensures n h in
     let k : ℕ = c.key_of.result in
     let e = c.key_of.ensures q.root w.stands in
     let d : is_expired k c.args.now ≡ true = sym c.if-not-is_expired.ensures in
     let s' : KeyedRoots = g.K.KeyedLists.seen c.delete.new.self in
     let out : s' ≡ deleted_from q.root entry lists = c.delete.ensures q.root w.stands in
     let t : ℕ = c.index-expiry.result.now in
-    let exists = task_exists c.args.now entry q lists c.requires.fits n h in
+    let exists = task_exists c.args.now entry q lists c.requires.fits c.stay_keyed.ensures n h in
     let is : t ≡ get_or q.expiries (entry / 2) 0 = expiry_is q c.self.inside.root c.self.inside.expiries.items (entry / 2) t c.self.view_is exists c.index-expiry.ensures in
     let tick : t < 2 ^ 32 = omega arith in
     let later : is_expired t c.args.now ≡ false = sym c.if-is_expired.ensures in
@@ -372,4 +372,4 @@ returns-clause-insertions g c =
     let same : c.self.inside.root ≡ q.root = ap (λ (x : Timers). x.root) c.self.view_is in
     let s'' : KeyedRoots = g.K.KeyedLists.seen c.insert.new.self in
     let back : s'' ≡ inserted_into q.root entry t s' = rw same at c.insert.ensures in
-    inserts_back c.args.now entry q lists c.requires.fits n h k e d s' out t is tick later armed s'' back
+    inserts_back c.args.now entry q lists c.requires.fits c.stay_keyed.ensures n h k e d s' out t is tick later armed s'' back

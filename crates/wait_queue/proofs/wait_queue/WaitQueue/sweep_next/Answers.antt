@@ -7,7 +7,7 @@ use Rattle.wait_queue.proofs.wait_queue.WaitQueue.sweep_next.Goals as goal
 
 pub look-requires-clause-room : goal.look-requires-clause-room
 look-requires-clause-room g c =
-    let whole = due_bound c.args.now c.args.self.now (g.K.KeyedLists.seen c.args.lists.now) c.requires.fits in
+    let whole = due_bound c.args.now c.args.self.now (g.K.KeyedLists.seen c.args.lists.now) c.requires.fits c.stay_keyed.ensures in
     omega (arith, whole, c.loop-id.invariant.bound, c.requires.room)
 
 pub returns-in-Settled-clause-list : goal.returns-in-Settled-clause-list
@@ -17,8 +17,8 @@ returns-in-Settled-clause-list g c =
 
 pub returns-in-Settled-clause-insertions : goal.returns-in-Settled-clause-insertions
 returns-in-Settled-clause-insertions g c =
-    inserts_settled c.args.now c.args.self.now (g.K.KeyedLists.seen c.args.lists.now) c.loop-id.self (g.K.KeyedLists.seen c.loop-id.lists) (g.K.KeyedLists.seen c.look.new.lists) c.loop-id.invariant c.requires.fits c.in-Settled.ensures.untouched
+    inserts_settled c.args.now c.args.self.now (g.K.KeyedLists.seen c.args.lists.now) c.loop-id.self (g.K.KeyedLists.seen c.loop-id.lists) (g.K.KeyedLists.seen c.look.new.lists) c.loop-id.invariant c.requires.fits c.stay_keyed.ensures c.in-Settled.ensures.untouched
 
 pub returns-in-Fired-clause-insertions : goal.returns-in-Fired-clause-insertions
 returns-in-Fired-clause-insertions g c =
-    inserts_fired c.args.now c.args.self.now (g.K.KeyedLists.seen c.args.lists.now) c.loop-id.self (g.K.KeyedLists.seen c.loop-id.lists) (g.K.KeyedLists.seen c.look.new.lists) c.loop-id.invariant c.in-Fired.ensures.insertions c.requires.fits c.in-Fired.ensures.saw.some
+    inserts_fired c.args.now c.args.self.now (g.K.KeyedLists.seen c.args.lists.now) c.loop-id.self (g.K.KeyedLists.seen c.loop-id.lists) (g.K.KeyedLists.seen c.look.new.lists) c.loop-id.invariant c.in-Fired.ensures.insertions c.requires.fits c.stay_keyed.ensures c.in-Fired.ensures.saw.some

@@ -10,7 +10,7 @@ pub returns-then-is_none-clause-list : goal.returns-then-is_none-clause-list
 returns-then-is_none-clause-list g c = λ now.
     let lists : KeyedRoots = g.K.KeyedLists.seen c.args.lists.now in
     let free = absent_here c.args.id.0 c.args.self.now lists c.requires.fits c.root_of.result (c.is_none.ensures ∙ ap not c.if-is_none.true) c.root_of.ensures.one in
-    subst (λ (x : Timers). wait_list now (unset c.args.id.0 x) lists ≡ unlinked c.args.id.0 (wait_list now c.args.self.now lists)) (sym c.self.view_is) (unlink_absent now c.args.id.0 c.args.self.now lists c.requires.fits free)
+    subst (λ (x : Timers). wait_list now (unset c.args.id.0 x) lists ≡ unlinked c.args.id.0 (wait_list now c.args.self.now lists)) (sym c.self.view_is) (unlink_absent now c.args.id.0 c.args.self.now lists c.requires.fits c.stay_keyed.ensures free)
 
 pub returns-clause-list : goal.returns-clause-list
 returns-clause-list g c = λ now.
