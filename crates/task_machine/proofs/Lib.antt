@@ -1,5 +1,6 @@
 pub mod About
 pub mod After
+pub mod Events
 pub mod Histories
 pub mod Lists
 pub mod Reasons

@@ -1,6 +1,6 @@
 //! What holds of every machine, as functions that do nothing and whose contracts are the laws.
 
-ghost use Rattle.task_machine.specs.Laws.{StepsKeepValidity, OpeningsAreValid, SeatsAndDealsKeepValidity, CallsHaveOneReply, RefusalsAreExact, HistoriesHaveOneEnd, TakesTellReasonsSince};
+ghost use Rattle.task_machine.specs.Laws.{StepsKeepValidity, OpeningsAreValid, SeatsAndDealsKeepValidity, CallsHaveOneReply, RefusalsAreExact, HistoriesHaveOneEnd, TakesTellReasonsSince, EntriesAreEvents, HistoriesAreByTask};
 
 /// Every step leads from a valid state to a valid one.
 pub fn steps_keep_validity()
@@ -36,4 +36,16 @@ pub fn histories_have_one_end()
 /// take, and the killed flag exactly where a kill came since then.
 pub fn takes_tell_reasons_since()
     ensures { TakesTellReasonsSince }
+{}
+
+/// An entry is allowed exactly where it is formed and each task admits what it is for that task, and
+/// then each task is afterwards what this makes of it.
+pub fn entries_are_events()
+    ensures { EntriesAreEvents }
+{}
+
+/// Entries are a legal history exactly where each is formed and each task admits what they are for
+/// it, and then each task is at the end what they make of it.
+pub fn histories_are_by_task()
+    ensures { HistoriesAreByTask }
 {}
