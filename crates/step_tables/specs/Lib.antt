@@ -7,3 +7,4 @@ pub mod Ranges
 pub mod Index
 pub mod Judging
 pub mod Views
+pub mod Nexts

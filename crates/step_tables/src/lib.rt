@@ -9,6 +9,7 @@ pub mod laws;
 mod lists;
 mod named_tasks;
 mod names;
+mod nexts;
 mod progress;
 mod reading;
 mod shapes;
@@ -19,6 +20,7 @@ mod writing;
 
 pub use faults::{ScriptError, ScriptFault};
 pub use lists::{Actions, Events, Name, Rows, Tasks};
+pub use nexts::Nexts;
 pub use tables::{Action, Event, Expiry, Kind, Row, Script, TaskDef};
 
 #[cfg(test)]
