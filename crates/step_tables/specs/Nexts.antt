@@ -12,6 +12,6 @@ abbrev pub nexts_of : Tables → List (List ℕ)
 nexts_of s = map next_rows s.tasks
 
 -- the row of task i that comes after t takes; it begins with row 0
-pub row_after : List (List ℕ) → ℕ → ℕ → ℕ
+unfoldable pub row_after : List (List ℕ) → ℕ → ℕ → ℕ
 row_after nexts i zero = 0
 row_after nexts i (suc t) = slice_index (slice_index_or nexts i []) (row_after nexts i t)
