@@ -76,6 +76,9 @@ call_again (calls.Post i b) replies.Done fits rfits has k below = rw (small_agai
 call_again (calls.Get g) (replies.Task s) fits rfits has k below = absurd has
 call_again (calls.Get g) (replies.Group m) fits rfits has k below = rw (small_again k below, small_again g fits, hex_again m rfits) refl
 call_again (calls.Get g) replies.Done fits rfits has k below = absurd has
+call_again (calls.Draw i) (replies.Task s) fits rfits has k below = absurd has
+call_again (calls.Draw i) (replies.Group m) fits rfits has k below = absurd has
+call_again (calls.Draw i) replies.Done fits rfits has k below = rw (small_again k below, small_again i.0 fits) refl
 
 -- what is read of the words of a line
 words_again : (l : Line) → HasTextLine l → said_by (line_words l) ≡ Some (Holds l)
@@ -111,6 +114,9 @@ entry_plain (calls.Post i b) replies.Done fits rfits has = rw (decimal_plain i.0
 entry_plain (calls.Get g) (replies.Task s) fits rfits has = absurd has
 entry_plain (calls.Get g) (replies.Group m) fits rfits has = rw (decimal_plain g (omega arith), hex_plain 16 m) refl
 entry_plain (calls.Get g) replies.Done fits rfits has = absurd has
+entry_plain (calls.Draw i) (replies.Task s) fits rfits has = absurd has
+entry_plain (calls.Draw i) (replies.Group m) fits rfits has = absurd has
+entry_plain (calls.Draw i) replies.Done fits rfits has = rw (decimal_plain i.0 (omega arith)) refl
 
 -- the first word of a line, and those behind it
 pub first_word : Line → List ℕ

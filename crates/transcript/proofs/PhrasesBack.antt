@@ -18,7 +18,7 @@ use Rattle.transcript.specs.declared.shape.Said.{Said}
 use Rattle.transcript.specs.declared.shape.Said.TheVariants.{First, Holds}
 use Rattle.transcript.specs.HasText.{HasTextSeen, HasTextCall, HasTextLine, FitsReply, FitsCall}
 use Rattle.transcript.specs.Spelling.{stand_word, flag_word, end_word, seen_words, reply_words, call_words, line_words, first_words}
-use Rattle.transcript.specs.Grammar.{◌>>=◌, stand_table, flag_table, at_rest_table, call_name_table, is, one_of, stand, flag, at_rest, call_name, pending, reasons, hex, small, takes_number, seen, sees, wake, post, get, call, caller_number, entry_line, round_line, end_line, first_line, or_else, said_by, said, pieces}
+use Rattle.transcript.specs.Grammar.{◌>>=◌, stand_table, flag_table, at_rest_table, call_name_table, is, one_of, stand, flag, at_rest, call_name, pending, reasons, hex, small, takes_number, seen, sees, wake, post, get, draw, call, caller_number, entry_line, round_line, end_line, first_line, or_else, said_by, said, pieces}
 use Rattle.transcript.proofs.NumbersAgain.{number_back, some_same}
 use Rattle.transcript.proofs.HexAgain.{hex_back}
 use Rattle.transcript.proofs.ReasonsAgain.{reasons_back, pending_back}
@@ -61,13 +61,14 @@ name_word names.Wake = codes "wake"
 name_word names.Kill = codes "kill"
 name_word names.Post = codes "post"
 name_word names.Get = codes "get"
+name_word names.Draw = codes "draw"
 name_word names.Take = codes "take"
 name_word names.DropRun = codes "drop"
 name_word names.Retire = codes "retire"
 
 name_back : (w : List ℕ) (n : CallName) → call_name w ≡ Some n → w ≡ name_word n
 unfolding name_word
-name_back w n e = one_of_back name_word call_name_table w n (refl, (refl, (refl, (refl, (refl, (refl, (refl, tt))))))) e
+name_back w n e = one_of_back name_word call_name_table w n (refl, (refl, (refl, (refl, (refl, (refl, (refl, (refl, tt)))))))) e
 
 -- what a call saw
 abbrev SeenBack : List (List ℕ) → Seen → Type 0
@@ -147,11 +148,20 @@ get_back (g ∷ m ∷ []) c e =
     subst (CallBack (codes "get" ∷ g ∷ m ∷ [])) (some_same q.2) (cons_same refl (cons_same pb.0 (cons_same qb.0 refl)), pb.1, qb.1, tt)
 get_back (g ∷ m ∷ x ∷ xs) c e = cc
 
+draw_back : (ws : List (List ℕ)) (c : Call × Reply) → draw ws ≡ Some c → CallBack (codes "draw" ∷ ws) c
+draw_back [] c e = cc
+draw_back (i ∷ []) c e =
+    let p = bind_some (small i) _ c e in
+    let pb = small_back i p.0 p.1 in
+    subst (CallBack (codes "draw" ∷ i ∷ [])) (some_same p.2) (cons_same refl (cons_same pb.0 refl), pb.1, tt, tt)
+draw_back (i ∷ x ∷ xs) c e = cc
+
 call_back : (n : CallName) (ws : List (List ℕ)) (c : Call × Reply) → call n ws ≡ Some c → CallBack (name_word n ∷ ws) c
 unfolding name_word
 call_back names.Wake ws c e = wake_back ws c e
 call_back names.Post ws c e = post_back ws c e
 call_back names.Get ws c e = get_back ws c e
+call_back names.Draw ws c e = draw_back ws c e
 call_back names.Kill ws c e =
     let p = bind_some (sees ws) _ c e in
     let b = sees_back ws p.0 p.1 in

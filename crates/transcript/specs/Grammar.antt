@@ -109,7 +109,7 @@ flag = one_of flag_table
 
 -- the names of the calls
 abbrev pub call_name_table : List (List ℕ × CallName)
-call_name_table = (codes "wake", names.Wake) ∷ (codes "kill", names.Kill) ∷ (codes "post", names.Post) ∷ (codes "get", names.Get) ∷ (codes "take", names.Take) ∷ (codes "drop", names.DropRun) ∷ (codes "retire", names.Retire) ∷ []
+call_name_table = (codes "wake", names.Wake) ∷ (codes "kill", names.Kill) ∷ (codes "post", names.Post) ∷ (codes "get", names.Get) ∷ (codes "draw", names.Draw) ∷ (codes "take", names.Take) ∷ (codes "drop", names.DropRun) ∷ (codes "retire", names.Retire) ∷ []
 
 -- the name of a call
 abbrev pub call_name : List ℕ → Option CallName
@@ -173,6 +173,13 @@ get (g ∷ m ∷ []) = do
   Some (calls.Get g, replies.Group m)
 get ws = None
 
+-- the number of a task that is drawn
+abbrev pub draw : List (List ℕ) → Option (Call × Reply)
+draw (i ∷ []) = do
+  i ← small i
+  Some (calls.Draw (task i), replies.Done)
+draw ws = None
+
 -- a call on a task, and what it saw
 abbrev pub told : (TaskId → Call) → Option (TaskId × Seen) → Option (Call × Reply)
 told made o = do
@@ -184,6 +191,7 @@ abbrev pub call : CallName → List (List ℕ) → Option (Call × Reply)
 call names.Wake ws = wake ws
 call names.Post ws = post ws
 call names.Get ws = get ws
+call names.Draw ws = draw ws
 call names.Kill ws = told calls.Kill (sees ws)
 call names.Take ws = told calls.Take (sees ws)
 call names.DropRun ws = told calls.DropRun (sees ws)

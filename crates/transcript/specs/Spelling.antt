@@ -71,6 +71,7 @@ call_words (call.Wake i reasons) = codes "wake" ∷ decimal i.0 ∷ reasons_word
 call_words (call.Kill i) = codes "kill" ∷ decimal i.0 ∷ []
 call_words (call.Post i box) = codes "post" ∷ decimal i.0 ∷ decimal box ∷ []
 call_words (call.Get group) = codes "get" ∷ decimal group ∷ []
+call_words (call.Draw i) = codes "draw" ∷ decimal i.0 ∷ []
 call_words (call.Take i) = codes "take" ∷ decimal i.0 ∷ []
 call_words (call.DropRun i) = codes "drop" ∷ decimal i.0 ∷ []
 call_words (call.Retire i) = codes "retire" ∷ decimal i.0 ∷ []

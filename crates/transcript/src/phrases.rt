@@ -1,7 +1,7 @@
 //! What the words of a line say.
 
 ghost use Rattle.std.specs.Prelude.{◌≡◌, ◌∷◌, [], map, IfOk};
-ghost use Rattle.transcript.specs.Grammar.{pieces, seen, sees, wake, post, get, call, caller_number, first_line, round_line, entry_line, end_line, said_by, said};
+ghost use Rattle.transcript.specs.Grammar.{pieces, seen, sees, wake, post, get, draw, call, caller_number, first_line, round_line, entry_line, end_line, said_by, said};
 
 use crate::lines::Line;
 use crate::numerals::{hex, small, takes_number};
@@ -122,6 +122,7 @@ fn call(name: CallName, words: &[&[u8]]) -> Option<(Call, Reply)>
         CallName::Wake => wake(words),
         CallName::Post => post(words),
         CallName::Get => get(words),
+        CallName::Draw => draw(words),
         CallName::Kill => {
             let (task, seen) = sees(words)?;
             Some((Call::Kill(task), Reply::Task(seen)))
@@ -176,6 +177,17 @@ fn get(words: &[&[u8]]) -> Option<(Call, Reply)>
     let group = small(group)?;
     let mask = hex(mask)?;
     Some((Call::Get(group), Reply::Group(mask)))
+}
+
+/// A task that is drawn.
+fn draw(words: &[&[u8]]) -> Option<(Call, Reply)>
+    ensures { result ≡ draw (map (λ w. w.now) words.now) }
+{
+    let [task] = words else {
+        return None;
+    };
+    let task = small(task)?;
+    Some((Call::Draw(TaskId(task)), Reply::Done))
 }
 
 /// A task, and what a call saw of it.

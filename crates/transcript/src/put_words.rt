@@ -222,6 +222,7 @@ pub(crate) fn put_call(out: &mut Vec<u8>, call: &Call) -> Result<(), AllocError>
             put_count(out, u64::from(place))
         }
         Call::Get(group) => put_named(out, b"get", group),
+        Call::Draw(task) => put_named(out, b"draw", task.0),
         Call::Take(task) => put_named(out, b"take", task.0),
         Call::DropRun(task) => put_named(out, b"drop", task.0),
         Call::Retire(task) => put_named(out, b"retire", task.0),

@@ -9,6 +9,7 @@ pub(crate) enum CallName {
     Kill,
     Post,
     Get,
+    Draw,
     Take,
     DropRun,
     Retire,

@@ -56,6 +56,7 @@ pub(crate) fn call_name(word: &[u8]) -> Option<CallName>
         b"kill" => Some(CallName::Kill),
         b"post" => Some(CallName::Post),
         b"get" => Some(CallName::Get),
+        b"draw" => Some(CallName::Draw),
         b"take" => Some(CallName::Take),
         b"drop" => Some(CallName::DropRun),
         b"retire" => Some(CallName::Retire),
