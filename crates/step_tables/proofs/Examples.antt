@@ -14,11 +14,11 @@ use Rattle.step_tables.specs.Sound.{is_sound, is_first_form}
 -- texts beside their scripts
 abbrev read_texts : List (List ℕ × Script)
 read_texts =
-    (codes "taskscript 1\nworkers 1\ndepth 200\nstart 4294967290\nstep 4\nrounds 10\ntask a home 0 nice 0 rows 2 init\nrow a 0 after 10 next 1\nrow a 1 kill a next 1\nend\n", record { workers = 1; depth = 200; start = 4294967290; step = 4; rounds = 10; tasks = record { name = codes "a"; kind = Pinned 0 (pos 0); init = true; rows = record { actions = []; expiry = After 10; next = 1 } ∷ record { actions = Kill (record { 0 = 0 }) ∷ []; expiry = Keep; next = 1 } ∷ [] } ∷ []; events = [] })
-    ∷ (codes "taskscript 1\nworkers 1\ndepth 200\nstart 1\nstep 1\nrounds 3\ntask a home 0 nice 0 rows 1 init\nrow a 0 wake a other next 0\nend\n", record { workers = 1; depth = 200; start = 1; step = 1; rounds = 3; tasks = record { name = codes "a"; kind = Pinned 0 (pos 0); init = true; rows = record { actions = Wake (record { 0 = 0 }) 64 ∷ []; expiry = Keep; next = 0 } ∷ [] } ∷ []; events = [] })
-    ∷ (codes "taskscript 1\nworkers 1\ndepth 200\nstart 1000\nstep 10\nrounds 20\ntask check home 0 nice 0 rows 2 init\ntasklet conn home 0 class urgent rows 1\nrow check 0 wake conn io after 20 next 1\nrow check 1 kill conn kill check next 1\nrow conn 0 next 0\nend\n", record { workers = 1; depth = 200; start = 1000; step = 10; rounds = 20; tasks = record { name = codes "check"; kind = Pinned 0 (pos 0); init = true; rows = record { actions = Wake (record { 0 = 1 }) 4 ∷ []; expiry = After 20; next = 1 } ∷ record { actions = Kill (record { 0 = 1 }) ∷ Kill (record { 0 = 0 }) ∷ []; expiry = Keep; next = 1 } ∷ [] } ∷ record { name = codes "conn"; kind = Tasklet 0 Urgent; init = false; rows = record { actions = []; expiry = Keep; next = 0 } ∷ [] } ∷ []; events = [] })
-    ∷ (codes "taskscript 1\nworkers 16\ndepth 1000\nstart 0\nstep 1048576\nrounds 100000\ntask next shared nice -1024 rows 1\nrow next 0 wake next init,other kill next next 0\nevent 3 kill next\nevent 3 wake next timer,io,signal,msg,res\nevent 99999 kill next\nend\n", record { workers = 16; depth = 1000; start = 0; step = 1048576; rounds = 100000; tasks = record { name = codes "next"; kind = Shared (negsuc 1023); init = false; rows = record { actions = Wake (record { 0 = 0 }) 65 ∷ Kill (record { 0 = 0 }) ∷ []; expiry = Keep; next = 0 } ∷ [] } ∷ []; events = record { round = 3; action = Kill (record { 0 = 0 }) } ∷ record { round = 3; action = Wake (record { 0 = 0 }) 62 } ∷ record { round = 99999; action = Kill (record { 0 = 0 }) } ∷ [] })
-    ∷ (codes "taskscript 1\nworkers 1\ndepth 200\nstart 4294967290\nstep 4\nrounds 10\nend\n", record { workers = 1; depth = 200; start = 4294967290; step = 4; rounds = 10; tasks = []; events = [] })
+    (codes "taskscript 1\nworkers 1\ndepth 200\nstart 4294967290\nstep 4\nrounds 10\ntask a home 0 nice 0 rows 2 init\nrow a 0 after 10 next 1\nrow a 1 kill a next 1\nend\n", record { version = 1; workers = 1; depth = 200; start = 4294967290; step = 4; rounds = 10; tasks = record { name = codes "a"; kind = Pinned 0 (pos 0); init = true; rows = record { actions = []; expiry = After 10; next = 1 } ∷ record { actions = Kill (record { 0 = 0 }) ∷ []; expiry = Keep; next = 1 } ∷ [] } ∷ []; events = [] })
+    ∷ (codes "taskscript 1\nworkers 1\ndepth 200\nstart 1\nstep 1\nrounds 3\ntask a home 0 nice 0 rows 1 init\nrow a 0 wake a other next 0\nend\n", record { version = 1; workers = 1; depth = 200; start = 1; step = 1; rounds = 3; tasks = record { name = codes "a"; kind = Pinned 0 (pos 0); init = true; rows = record { actions = Wake (record { 0 = 0 }) 64 ∷ []; expiry = Keep; next = 0 } ∷ [] } ∷ []; events = [] })
+    ∷ (codes "taskscript 1\nworkers 1\ndepth 200\nstart 1000\nstep 10\nrounds 20\ntask check home 0 nice 0 rows 2 init\ntasklet conn home 0 class urgent rows 1\nrow check 0 wake conn io after 20 next 1\nrow check 1 kill conn kill check next 1\nrow conn 0 next 0\nend\n", record { version = 1; workers = 1; depth = 200; start = 1000; step = 10; rounds = 20; tasks = record { name = codes "check"; kind = Pinned 0 (pos 0); init = true; rows = record { actions = Wake (record { 0 = 1 }) 4 ∷ []; expiry = After 20; next = 1 } ∷ record { actions = Kill (record { 0 = 1 }) ∷ Kill (record { 0 = 0 }) ∷ []; expiry = Keep; next = 1 } ∷ [] } ∷ record { name = codes "conn"; kind = Tasklet 0 Urgent; init = false; rows = record { actions = []; expiry = Keep; next = 0 } ∷ [] } ∷ []; events = [] })
+    ∷ (codes "taskscript 1\nworkers 16\ndepth 1000\nstart 0\nstep 1048576\nrounds 100000\ntask next shared nice -1024 rows 1\nrow next 0 wake next init,other kill next next 0\nevent 3 kill next\nevent 3 wake next timer,io,signal,msg,res\nevent 99999 kill next\nend\n", record { version = 1; workers = 16; depth = 1000; start = 0; step = 1048576; rounds = 100000; tasks = record { name = codes "next"; kind = Shared (negsuc 1023); init = false; rows = record { actions = Wake (record { 0 = 0 }) 65 ∷ Kill (record { 0 = 0 }) ∷ []; expiry = Keep; next = 0 } ∷ [] } ∷ []; events = record { round = 3; action = Kill (record { 0 = 0 }) } ∷ record { round = 3; action = Wake (record { 0 = 0 }) 62 } ∷ record { round = 99999; action = Kill (record { 0 = 0 }) } ∷ [] })
+    ∷ (codes "taskscript 1\nworkers 1\ndepth 200\nstart 4294967290\nstep 4\nrounds 10\nend\n", record { version = 1; workers = 1; depth = 200; start = 4294967290; step = 4; rounds = 10; tasks = []; events = [] })
     ∷ []
 
 read_texts-are_read : map (λ e. script_of e.0) read_texts ≡ map (λ e. Ok e.1) read_texts

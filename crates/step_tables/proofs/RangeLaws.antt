@@ -1,7 +1,8 @@
 -- From the tests of a script's ranges to what they say of each part.
 use Rattle.std.proofs.Common.{◌≡◌, ℕ, suc, zero, ◌≤◌, ◌<◌, Bool, true, List, [], ◌∷◌, length, ap, sym, ◌∙◌, arith}
-use Rattle.std.specs.Prelude.{Some, ◌&&◌, nat_le, nat_lt, slice_get}
+use Rattle.std.specs.Prelude.{Some, ◌&&◌, ◌==◌, nat_le, nat_lt, slice_get}
 use Rattle.std.specs.List.{list_all}
+use Rattle.std.proofs.lemmas.Bool.{eqb-true}
 use Rattle.std.proofs.lemmas.Bool.Decides.{nat_tests}
 use Rattle.std.proofs.lemmas.Option.{none-some}
 use Rattle.step_tables.specs.declared.tables.Action.{Action}
@@ -93,7 +94,8 @@ round_below from rounds (f ∷ events) (suc k) event e at = round_below f.round 
 pub range_of_sound : (s : Script) → is_sound s ≡ true → ScriptRange s
 unfolding is_sound
 range_of_sound s e =
-    let (workers, e_2) = split (within 1 16 s.workers) _ e in
+    let (version, e_1) = split (s.version == 1) _ e in
+    let (workers, e_2) = split (within 1 16 s.workers) _ e_1 in
     let (depth, e_3) = split (within 1 1000 s.depth) _ e_2 in
     let (start, e_4) = split (nat_le s.start 4294967295) _ e_3 in
     let (step, e_5) = split (within 1 1048576 s.step) _ e_4 in
@@ -104,6 +106,7 @@ range_of_sound s e =
     let (few_events, e_10) = split (nat_le (length s.events) 65536) _ e_9 in
     let (actions, rising) = split (list_all (λ event. is_sound_action (length s.tasks) event.action) s.events) (rising_below 0 s.rounds s.events) e_10 in
     record {
+      version = eqb-true s.version 1 version;
       some_workers = (within_range 1 16 s.workers workers).0;
       few_workers = (within_range 1 16 s.workers workers).1;
       some_depth = (within_range 1 1000 s.depth depth).0;

@@ -2,6 +2,7 @@
 use Rattle.std.proofs.Common.{◌≡◌, ℕ, suc, ◌+◌, ◌^◌, ◌≤◌, ◌<◌, true, false, cond, List, [], ◌∷◌, ◌++◌, map, length, take, refl, ap, sym, ◌∙◌, arith, subst, append_assoc, append-nil, length-append, lit<}
 use Rattle.std.specs.Prelude.{Some, None, Ok, codes, ◌==◌, nat_lt, nat_le, decimal, count_by, flat_map}
 use Rattle.std.specs.List.{list_all}
+use Rattle.std.proofs.lemmas.Bool.{eqb-true}
 use Rattle.std.proofs.lemmas.Bool.Decides.{nat_tests}
 use Rattle.std.proofs.lemmas.List.Folds.{list_all-append}
 use Rattle.std.proofs.lemmas.List.{take_all}
@@ -94,6 +95,7 @@ names_fine workers n (t ∷ ts) e = both _ _ (first_of_both (is_name t.name) _ (
 
 -- what is known of a script in range
 record InRange (s : Script) : Type 0 where
+  version : s.version ≡ 1
   workers : within 1 16 s.workers ≡ true
   depth : within 1 1000 s.depth ≡ true
   start : nat_le s.start 4294967295 ≡ true
@@ -109,7 +111,8 @@ record InRange (s : Script) : Type 0 where
 in_range : (s : Script) → is_sound s ≡ true → InRange s
 unfolding is_sound
 in_range s e =
-    let e_2 = second_of_both (within 1 16 s.workers) _ e in
+    let e_1 = second_of_both (s.version == 1) _ e in
+    let e_2 = second_of_both (within 1 16 s.workers) _ e_1 in
     let e_3 = second_of_both (within 1 1000 s.depth) _ e_2 in
     let e_4 = second_of_both (nat_le s.start 4294967295) _ e_3 in
     let e_5 = second_of_both (within 1 1048576 s.step) _ e_4 in
@@ -119,7 +122,8 @@ in_range s e =
     let e_9 = second_of_both (distinct_names (names_of s.tasks)) _ e_8 in
     let e_10 = second_of_both (nat_le (length s.events) 65536) _ e_9 in
     record {
-      workers = first_of_both (within 1 16 s.workers) _ e;
+      version = eqb-true s.version 1 (first_of_both (s.version == 1) _ e);
+      workers = first_of_both (within 1 16 s.workers) _ e_1;
       depth = first_of_both (within 1 1000 s.depth) _ e_2;
       start = first_of_both (nat_le s.start 4294967295) _ e_3;
       step = first_of_both (within 1 1048576 s.step) _ e_4;
@@ -208,6 +212,7 @@ judged_again s r =
     ap (judged None 1 nothing) (text_lines s r)
     ∙ settings_again s (map bytes_of (body_said s.tasks s.events) ++ [] ∷ []) r (lines_some (body_said s.tasks s.events))
     ∙ run_lines 7 (base s [] [] 0 []) (record (with_events s s.events) { ended = true }) (body_said s.tasks s.events) (lit< tt) (body_run s r) refl
+    ∙ ap (λ (n : ℕ). let x : Script = record s { version = n } in Ok x) (sym r.version)
 
 -- the text of a script in range is read as that script
 pub text_again : (s : Script) → is_sound s ≡ true → length (script_text s) ≤ byte_limit → script_of (script_text s) ≡ Ok s

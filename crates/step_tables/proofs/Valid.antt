@@ -242,6 +242,6 @@ valid_step p q ends body unended a v = subst Valid a.added (record {
 pub valid_end : (p : Progress) → Valid p → p.ended ≡ true → is_sound (script_from p) ≡ true
 unfolding is_sound script_from
 valid_end p v ended =
-    both _ _ v.workers (both _ _ v.depth (both _ _ v.start (both _ _ v.step (both _ _ v.rounds (both _ _ v.few
+    both _ _ refl (both _ _ v.workers (both _ _ v.depth (both _ _ v.start (both _ _ v.step (both _ _ v.rounds (both _ _ v.few
     (both _ _ (all_filled p.workers (length p.tasks) p.at p.tasks p.counts v.tables (v.done ended))
-    (both _ _ v.names (both _ _ v.few_events (both _ _ v.actions v.rising)))))))))
+    (both _ _ v.names (both _ _ v.few_events (both _ _ v.actions v.rising))))))))))

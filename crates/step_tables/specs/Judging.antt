@@ -319,7 +319,7 @@ fault line kind = record { line = line; kind = kind }
 
 -- the script that is read
 unfoldable pub script_from : Progress → Script
-script_from p = record { workers = p.workers; depth = p.depth; start = p.start; step = p.step; rounds = p.rounds; tasks = p.tasks; events = p.events }
+script_from p = record { version = 1; workers = p.workers; depth = p.depth; start = p.start; step = p.step; rounds = p.rounds; tasks = p.tasks; events = p.events }
 
 -- the verdict on a line, with the line's number
 abbrev pub at_line : ℕ → Result Progress ℕ → Result Progress ScriptFault

@@ -3,8 +3,9 @@ use Rattle.std.specs.Prelude.{ℕ, List}
 use Rattle.step_tables.specs.declared.tables.TaskDef.{TaskDef}
 use Rattle.step_tables.specs.declared.tables.Event.{Event}
 
--- the settings, the tasks and the events
+-- the version of the format, the settings, the tasks and the events
 pub record Tables : Type 0 where
+  pub version : ℕ
   pub workers : ℕ
   pub depth : ℕ
   pub start : ℕ

@@ -136,6 +136,7 @@ impl Progress {
             return refuse(number, 2);
         }
         Ok(Script {
+            version: 1,
             workers: self.workers,
             depth: self.depth,
             start: self.start,

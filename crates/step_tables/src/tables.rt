@@ -70,6 +70,8 @@ pub struct Event {
 /// Contracts see its tables, which are in range.
 #[derive(Debug, Drop)]
 pub struct Script {
+    /// The version of the format, which is 1.
+    pub(crate) version: u32,
     /// 1 to 16.
     pub(crate) workers: u32,
     /// How many tasks a turn may pick, 1 to 1,000.
@@ -94,12 +96,20 @@ impl Model for Script {
     ghost use Rattle.std.specs.Prelude.{IsTrue};
     ghost use Rattle.step_tables.specs.Sound.{is_sound};
 
-    ghost view = { λ s. record { workers = s.workers; depth = s.depth; start = s.start; step = s.step; rounds = s.rounds; tasks = s.tasks; events = s.events } };
+    ghost view = { λ s. record { version = s.version; workers = s.workers; depth = s.depth; start = s.start; step = s.step; rounds = s.rounds; tasks = s.tasks; events = s.events } };
 
-    ghost invariant = { λ s. IsTrue (is_sound (record { workers = s.workers; depth = s.depth; start = s.start; step = s.step; rounds = s.rounds; tasks = s.tasks; events = s.events })) };
+    ghost invariant = { λ s. IsTrue (is_sound (record { version = s.version; workers = s.workers; depth = s.depth; start = s.start; step = s.step; rounds = s.rounds; tasks = s.tasks; events = s.events })) };
 }
 
 impl Script {
+    /// The version of the format that it is written in, which is 1.
+    pub fn version(&self) -> u32
+        ensures same { result ≡ self.now.version }
+        ensures sound { IsTrue (is_sound self.now) }
+    {
+        self.version
+    }
+
     /// How many workers there are, 1 to 16.
     pub fn workers(&self) -> u32
         ensures same { result ≡ self.now.workers }

@@ -278,3 +278,18 @@ fn reads_and_writes_scripts_and_names_first_faults(rt: HostRuntime) -> Result<()
     assert!(rt; has_fault(rt.alloc(), letters.as_slice(), 7, 8));
     Ok(())
 }
+
+fn crosses_threads<T: Send + Sync>(_value: &T) {}
+
+#[test]
+fn scripts_and_next_rows_cross_threads(rt: HostRuntime) -> Result<(), Fail> {
+    let text = format!(in rt.alloc(); "{ROWS}end\n")?;
+    let script = Script::read(rt.alloc(), text.as_bytes())?;
+    crosses_threads(&script);
+    let nexts = Nexts::of(rt.alloc(), &script)?;
+    crosses_threads(&nexts);
+    let shown = format!(in rt.alloc(); "{nexts:?} {:?}", Nexts::none(rt.alloc()))?;
+    let lists = "Nexts { lists: [NextRows { rows: [1, 1] }] } Nexts { lists: [] }";
+    assert_eq!(rt; shown.as_str(), lists);
+    Ok(())
+}
