@@ -1,6 +1,6 @@
 //! What holds of every machine, as functions that do nothing and whose contracts are the laws.
 
-ghost use Rattle.task_machine.specs.Laws.{StepsKeepValidity, OpeningsAreValid, SeatsAndDealsKeepValidity, CallsHaveOneReply, RefusalsAreExact, HistoriesHaveOneEnd, TakesTellReasonsSince, EntriesAreEvents, HistoriesAreByTask};
+ghost use Rattle.task_machine.specs.Laws.{OwnCallsTellPlaces, StepsKeepValidity, OpeningsAreValid, SeatsAndDealsKeepValidity, CallsHaveOneReply, RefusalsAreExact, HistoriesHaveOneEnd, TakesTellReasonsSince, EntriesAreEvents, HistoriesAreByTask};
 
 /// Every step leads from a valid state to a valid one.
 pub fn steps_keep_validity()
@@ -48,4 +48,9 @@ pub fn entries_are_events()
 /// it, and then each task is at the end what they make of it.
 pub fn histories_are_by_task()
     ensures { HistoriesAreByTask }
+{}
+
+/// After a legal history, what a caller has of a task is what its own calls in it make of what it had.
+pub fn own_calls_tell_places()
+    ensures { OwnCallsTellPlaces }
 {}

@@ -13,8 +13,8 @@ pub use calls::{Call, Entry, NotLegal, Reply};
 pub use entry_log::Log;
 pub use laws::{
     calls_have_one_reply, entries_are_events, histories_are_by_task, histories_have_one_end,
-    openings_are_valid, refusals_are_exact, seats_and_deals_keep_validity, steps_keep_validity,
-    takes_tell_reasons_since,
+    openings_are_valid, own_calls_tell_places, refusals_are_exact, seats_and_deals_keep_validity,
+    steps_keep_validity, takes_tell_reasons_since,
 };
 pub use machine::Machine;
 pub use task::{Place, Seen, Stand, TaskState};
