@@ -11,7 +11,7 @@ use Rattle.sched_base.proofs.Inserted.{Answers, inserted-append_right, filter-in
 use Rattle.queue_model.specs.Ticks.{distance, is_set, is_expired}
 use Rattle.queue_model.specs.WaitList.{WaitItem, WaitList, placed}
 use Rattle.queue_model.specs.Sweep.{due}
-use Rattle.queue_model.specs.SweepStep.{before, onward, fires, first_fired, unset_first, stepped}
+use Rattle.queue_model.specs.SweepStep.{before, onward, fires, first_fired, unset_first, swept_once}
 
 pub int_le-fails : (x y : ℤ) → int_le x y ≡ false → y <ℤ x
 int_le-fails x y h = grind (arith, ints)
@@ -31,7 +31,7 @@ DueFirst now items = filter (is_due now) items ++ ahead now items ≡ items
 -- two lists from which a step comes to the same
 pub record SameStep (now : ℕ) (l m : WaitList) : Type 0 where
   pub fired : first_fired now l ≡ first_fired now m
-  pub list : stepped now l ≡ stepped now m
+  pub list : swept_once now l ≡ swept_once now m
 
 -- without a first item that is due nothing is
 pub none_due : (now : ℕ) (y : WaitItem) (ys : List WaitItem) → is_due now y ≡ false → DueFirst now (y ∷ ys) → filter (is_due now) (y ∷ ys) ≡ []
@@ -49,7 +49,7 @@ pub due_first_rest : (now : ℕ) (y : WaitItem) (ys : List WaitItem) → is_due 
 due_first_rest now y ys h first = let e : y ∷ (filter (is_due now) ys ++ ahead now ys) ≡ y ∷ ys = rw h at first in cc
 
 -- where nothing is due, a step changes nothing
-pub step_settled : (now : ℕ) (l : WaitList) → due now l ≡ [] → (first_fired now l ≡ None) × (stepped now l ≡ l)
+pub step_settled : (now : ℕ) (l : WaitList) → due now l ≡ [] → (first_fired now l ≡ None) × (swept_once now l ≡ l)
 step_settled now l none =
     (rw none refl, rw none (ap (λ (ys : List WaitItem). let m : WaitList = record { items = ys; expiries = l.expiries } in m) (filter-all (λ (y : WaitItem). not (is_due now y)) l.items (all_ahead l.items none))))
   where
@@ -136,7 +136,7 @@ step_forgets now y ys es d unset =
     }
 
 -- a first item that fires
-pub step_fires : (now : ℕ) (y : WaitItem) (ys : List WaitItem) (es : List ℕ) → is_due now y ≡ true → fires now (record { items = y ∷ ys; expiries = es }) y ≡ true → DueFirst now (y ∷ ys) → (first_fired now (record { items = y ∷ ys; expiries = es }) ≡ Some y.task) × (stepped now (record { items = y ∷ ys; expiries = es }) ≡ record { items = ys; expiries = set es y.task 0 })
+pub step_fires : (now : ℕ) (y : WaitItem) (ys : List WaitItem) (es : List ℕ) → is_due now y ≡ true → fires now (record { items = y ∷ ys; expiries = es }) y ≡ true → DueFirst now (y ∷ ys) → (first_fired now (record { items = y ∷ ys; expiries = es }) ≡ Some y.task) × (swept_once now (record { items = y ∷ ys; expiries = es }) ≡ record { items = ys; expiries = set es y.task 0 })
 step_fires now y ys es d f first =
     let rest = due_first_rest now y ys d first in
     (rw d (rw f refl), rw (d, f) (ap (λ (zs : List WaitItem). let m : WaitList = record { items = zs; expiries = set es y.task 0 } in m) rest))

@@ -1,4 +1,4 @@
--- Steps of a sweep until none fires come to the sweep.
+-- SweepsBy of a sweep until none fires come to the sweep.
 use Rattle.std.proofs.Common.{◌≡◌, ℕ, Bool, true, false, not, ◌&&◌, eqb, List, [], ◌∷◌, ◌++◌, Some, None, map, drop, set, get_or, refl, sym, ap, subst, ◌∙◌, inl, inr, append-nil}
 use Rattle.std.specs.Prelude.{fold, filter, int_le}
 use Rattle.std.specs.List.{AllByRecursion}
@@ -9,7 +9,7 @@ use Rattle.sched_base.proofs.Inserted.{Answers, inserted-append_right, filter-al
 use Rattle.queue_model.specs.Ticks.{distance, is_set, is_expired}
 use Rattle.queue_model.specs.WaitList.{WaitItem, WaitList, with_expiry, placed}
 use Rattle.queue_model.specs.Sweep.{due, fired, swept}
-use Rattle.queue_model.specs.SweepStep.{before, onward, first_task, stepped, Steps, unset_first}
+use Rattle.queue_model.specs.SweepStep.{before, onward, first_task, swept_once, SweepsBy, unset_first}
 use Rattle.queue_model.proofs.SweepSteps.{is_due, ahead, due_before}
 
 abbrev pub fires_by : ℕ → List ℕ → WaitItem → Bool
@@ -146,7 +146,7 @@ ahead_is now d a due_d ahead_a =
     filter-append nd d a ∙ rw (filter-none nd d (all-weaker (λ (z : WaitItem). is_due now z ≡ true) (λ (z : WaitItem). nd z ≡ false) d (λ z h. not_from_true _ h) due_d), filter-all nd a (all-weaker (λ (z : WaitItem). is_due now z ≡ false) (λ (z : WaitItem). nd z ≡ true) a (λ z h. not_from_false _ h) ahead_a)) refl
 
 -- a step in these words
-pub stepped_is : (now : ℕ) (es : List ℕ) (d a o : List WaitItem) → Answers true (is_due now) d → Answers false (is_due now) a → onward (fires_by now es) d ≡ o → stepped now (list_of (d ++ a) es) ≡ list_of (fold (place_by now es) (drop 1 o ++ a) (tasks (filter (set_by es) (before (fires_by now es) d)))) (unset_first o es)
+pub stepped_is : (now : ℕ) (es : List ℕ) (d a o : List WaitItem) → Answers true (is_due now) d → Answers false (is_due now) a → onward (fires_by now es) d ≡ o → swept_once now (list_of (d ++ a) es) ≡ list_of (fold (place_by now es) (drop 1 o ++ a) (tasks (filter (set_by es) (before (fires_by now es) d)))) (unset_first o es)
 stepped_is now es d a o due_d ahead_a e =
     rw (due_is now d a due_d ahead_a, ahead_is now d a due_d ahead_a) (rw e refl)
 
@@ -157,7 +157,7 @@ rest_due now (x ∷ xs) y ys h = rest_due now xs y ys h.1
 pub no_back : (now : ℕ) (es : List ℕ) (y : WaitItem) → fires_by now es y ≡ true → back_by now es y ≡ false
 no_back now es y h = elim (cases_Bool (set_by es y)) [ inl k ↦ rw (k, h) refl | inr k ↦ rw k refl ]
 
-pub steps_sweep : (now : ℕ) (es : List ℕ) (d a : List WaitItem) (is : List ℕ) (new : WaitList) → Answers true (is_due now) d → Answers false (is_due now) a → TasksApart d → Steps now (list_of (d ++ a) es) is new → (is ≡ tasks (filter (fires_by now es) d)) × (new ≡ swept_of now es d a)
+pub steps_sweep : (now : ℕ) (es : List ℕ) (d a : List WaitItem) (is : List ℕ) (new : WaitList) → Answers true (is_due now) d → Answers false (is_due now) a → TasksApart d → SweepsBy now (list_of (d ++ a) es) is new → (is ≡ tasks (filter (fires_by now es) d)) × (new ≡ swept_of now es d a)
 steps_sweep now es d a [] new due_d ahead_a apart h =
     let f : WaitItem → Bool = fires_by now es in
     let none : first_task (onward f d) ≡ None = rw (due_is now d a due_d ahead_a) at h.0 in
@@ -165,7 +165,7 @@ steps_sweep now es d a [] new due_d ahead_a apart h =
     let all : before f d ≡ d = sym (append-nil (before f d)) ∙ ap (λ (zs : List WaitItem). before f d ++ zs) (sym o) ∙ before-onward f d in
     let quiet : Answers false f d = subst (λ (zs : List WaitItem). Answers false f zs) all (before_quiet f d) in
     let fires_none : filter f d ≡ [] = filter-none f d quiet in
-    let end : stepped now (list_of (d ++ a) es) ≡ list_of (fold (place_by now es) a (tasks (filter (set_by es) d))) es = stepped_is now es d a [] due_d ahead_a o ∙ ap (λ (zs : List WaitItem). list_of (fold (place_by now es) a (tasks (filter (set_by es) zs))) es) all in
+    let end : swept_once now (list_of (d ++ a) es) ≡ list_of (fold (place_by now es) a (tasks (filter (set_by es) d))) es = stepped_is now es d a [] due_d ahead_a o ∙ ap (λ (zs : List WaitItem). list_of (fold (place_by now es) a (tasks (filter (set_by es) zs))) es) all in
     (rw fires_none refl, h.1 ∙ end ∙ rw (back_is_set now es d quiet, fires_none) refl)
 steps_sweep now es d a (i ∷ is) new due_d ahead_a apart h =
     let some : first_task (onward (fires_by now es) d) ≡ Some i = rw (due_is now d a due_d ahead_a) at h.0 in
@@ -186,8 +186,8 @@ steps_sweep now es d a (i ∷ is) new due_d ahead_a apart h =
     let due_all : Answers true (is_due now) (p ++ y ∷ ys) = subst (λ (zs : List WaitItem). Answers true (is_due now) zs) (sym whole) due_d in
     let due_ys : Answers true (is_due now) ys = rest_due now p y ys due_all in
     let a' : List WaitItem = fold (place_by now es) a ps in
-    let step : stepped now (list_of (d ++ a) es) ≡ list_of (ys ++ a') es' = stepped_is now es d a (y ∷ ys) due_d ahead_a e ∙ ap (λ (zs : List WaitItem). list_of zs es') (fold_behind now es ps ys a ready due_ys) in
-    let after : Steps now (list_of (ys ++ a') es') is new = subst (λ (l : WaitList). Steps now l is new) step h.1 in
+    let step : swept_once now (list_of (d ++ a) es) ≡ list_of (ys ++ a') es' = stepped_is now es d a (y ∷ ys) due_d ahead_a e ∙ ap (λ (zs : List WaitItem). list_of zs es') (fold_behind now es ps ys a ready due_ys) in
+    let after : SweepsBy now (list_of (ys ++ a') es') is new = subst (λ (l : WaitList). SweepsBy now l is new) step h.1 in
     let ih = steps_sweep now es' ys a' is new due_ys (fold_ahead now es ps a ready ahead_a) behind.1 after in
     let same_fires : filter (fires_by now es') ys ≡ filter f ys = filter_other (λ t. is_expired t now) es y.task ys behind.0 in
     let same_back : filter (back_by now es') ys ≡ filter (back_by now es) ys = filter_other (λ t. is_set t && not (is_expired t now)) es y.task ys behind.0 in

@@ -49,13 +49,13 @@ abbrev pub put_again : ℕ → WaitList → List ℕ
 put_again now l = map (λ y. y.task) (filter (λ y. is_set (expiry_of l y.task)) (passed now l))
 
 -- the list after a step
-abbrev pub stepped : ℕ → WaitList → WaitList
-stepped now l = record {
+abbrev pub swept_once : ℕ → WaitList → WaitList
+swept_once now l = record {
   items = fold (λ ys i. placed now i (expiry_of l i) ys) (left now l) (put_again now l);
   expiries = unset_first (halted now l) l.expiries;
 }
 
 -- steps from one list to another that fire these tasks in order, the last of which fires none
-abbrev pub Steps : ℕ → WaitList → List ℕ → WaitList → Type 0
-Steps now old [] new = (first_fired now old ≡ None) × (new ≡ stepped now old)
-Steps now old (i ∷ is) new = (first_fired now old ≡ Some i) × Steps now (stepped now old) is new
+abbrev pub SweepsBy : ℕ → WaitList → List ℕ → WaitList → Type 0
+SweepsBy now old [] new = (first_fired now old ≡ None) × (new ≡ swept_once now old)
+SweepsBy now old (i ∷ is) new = (first_fired now old ≡ Some i) × SweepsBy now (swept_once now old) is new

@@ -1,6 +1,2 @@
-//! What a lawful run of a script is: rows and books, lawful turns, injector rounds and runs.
+//! What a lawful run of a script is.
 #![tactic(auto)]
-
-mod laws;
-
-pub use laws::{lawful_runs_are_decided, lawful_runs_keep_time};
