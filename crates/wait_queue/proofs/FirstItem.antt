@@ -9,11 +9,11 @@ use Rattle.sched_base.proofs.Inserted.{all-weaker, filter-inserted_out}
 use Rattle.queue_model.specs.Ticks.{distance, is_expired, is_set}
 use Rattle.queue_model.specs.WaitList.{WaitItem, WaitList, placed}
 use Rattle.queue_model.specs.Sweep.{due}
-use Rattle.queue_model.specs.SweepStep.{first_fired, swept_once}
+use Rattle.queue_model.specs.SweepStep.{is_due, DueFirst, first_fired, swept_once}
 use Rattle.queue_model.specs.Walk.{walked}
 use Rattle.queue_model.proofs.Walk.{walked-filter, walked_by_distance, all-walked}
 use Rattle.queue_model.proofs.WalkItems.{none_is}
-use Rattle.queue_model.proofs.SweepSteps.{is_due, DueFirst, none_due, step_fires, step_puts_back, step_forgets}
+use Rattle.queue_model.proofs.SweepSteps.{none_due, step_fires, step_puts_back, step_forgets}
 use Rattle.wait_queue.specs.Looks.{Settles, Passes, Fires}
 use Rattle.wait_queue.specs.Timers.{Timers, entry_of, wait_item, wait_list, IsTimer, Fits, insertions_of, Inserts}
 use Rattle.wait_queue.proofs.Meaning.{First, first_of, due_first, ticks_of, changes_root, changes_both, insertion_places, fits_after_insertion, fits_after_deletion, fits_after_change, free_after_deletion, free_task, entry_exists, insertions_after_insertion, insertions_after_deletion, unset, set_positive}
