@@ -1,14 +1,13 @@
 -- Which tasks a caller has, and which replies its next call can have (docs/MODEL.md, "What a caller has").
-use Rattle.std.specs.Prelude.{◌≡◌, ℕ, ◌+◌, ◌^◌, ◌<◌, ◌≤◌, ◌==◌, length, true, false, if◌then◌else◌}
+use Rattle.std.specs.Prelude.{ℕ, ◌+◌, ◌<◌, ◌≤◌, ◌==◌, length, true, false, if◌then◌else◌}
 use Rattle.sched_base.specs.declared.names.CallerId.{CallerId}
 use Rattle.step_tables.specs.declared.tables.Script.{Script}
-use Rattle.task_machine.specs.declared.task.Seen.{Seen}
 use Rattle.task_machine.specs.declared.calls.Call.{Call}
-use Rattle.task_machine.specs.declared.calls.Call.TheVariants.{Wake, Kill, Post, Get, Draw}
+use Rattle.task_machine.specs.declared.calls.Call.TheVariants.{Wake, Kill, Get, Draw}
 use Rattle.task_machine.specs.declared.calls.Reply.{Reply}
-use Rattle.task_machine.specs.declared.calls.Reply.TheVariants.{Task, Group, Done}
 use Rattle.task_machine.specs.declared.calls.Entry.{Entry}
 use Rattle.task_machine.specs.Step.{bit}
+use Rattle.task_machine.specs.Event.{HasKind}
 use Rattle.run_model.specs.Replies.{is_rest, members}
 use Rattle.turn_steps.specs.Times.{times, listed}
 use Rattle.turn_steps.specs.Left.{Left, acts, posts, drops, retires, returns, drawn, carries, Stage}
@@ -56,13 +55,6 @@ gain i (Kill j) r = if is_rest r then bit (i == j.0) else 0
 gain i (Get g) r = times i (members g r)
 gain i (Draw j) r = bit (i == j.0)
 gain i c r = 0
-
--- a reply has the kind of its call
-abbrev pub HasKind : Call → Reply → Type 0
-HasKind (Post j b) r = r ≡ Done
-HasKind (Get g) r = (n : ℕ) × (r ≡ Group n) × (n < 2 ^ 64)
-HasKind (Draw j) r = r ≡ Done
-HasKind c r = (x : Seen) × (r ≡ Task x)
 
 -- the reply is one that a machine can give: of its kind, and what is gained by it are tasks that the caller has not
 pub record CanGive (s : Script) (g : Stage) (c : Call) (r : Reply) : Type 0 where
