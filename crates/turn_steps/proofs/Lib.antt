@@ -4,3 +4,5 @@ pub mod Turns
 pub mod Told
 pub mod Books
 pub mod Stages
+pub mod Quotas
+pub mod Budget
