@@ -6,3 +6,7 @@ pub mod Books
 pub mod Stages
 pub mod Quotas
 pub mod Budget
+pub mod Measure
+pub mod Ranges
+pub mod Fit
+pub mod Hears

@@ -49,7 +49,6 @@ share-none d c k none =
       | inr h ↦ rw h refl
     ]
 
-
 shares-le : (d : ℕ) (c : Classes (List ℕ)) → share d c Urgent + share d c Normal + share d c Bulk + share d c Heavy ≤ d + 3
 shares-le d c =
     elim (cases_lt 0 (total c)) [

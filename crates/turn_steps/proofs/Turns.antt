@@ -192,15 +192,29 @@ module _ (s : Script) (w : CallerId) (T : ℕ) where
             let two = draws_from n one.0 one.2 d one.5 in
             let entry : e ≡ record { caller = w; call = Draw (record { 0 = i }); reply = e.reply } = ap₂ (λ (k : CallerId) (c : Call). record { caller = k; call = c; reply = e.reply }) rest.0 m.call in
             let joined : e ∷ es ≡ (e ∷ (one.1 ++ two.1)) ++ two.2 = ap (λ zs. e ∷ zs) (one.3 ∙ (ap (λ xs. one.1 ++ xs) two.3 ∙ sym (append_assoc one.1 two.1 two.2))) in
-            let le = two.4.1 in
-            (two.0, e ∷ (one.1 ++ two.1), two.2, joined, (suc two.4.0, omega arith, (i, m.shared, record {
-              first = e ∷ [];
-              second = one.1 ++ two.1;
-              between = b;
-              joined = refl;
-              front = record { reply = e.reply; rest = []; begins = ap (λ x. x ∷ []) entry; goes_on = (refl, refl) };
-              back = record { first = one.1; second = two.1; between = one.0; joined = refl; front = one.4; back = two.4.2 };
-            })), two.5)
+            let le = two.4.1 in (
+              two.0,
+              e ∷ (one.1 ++ two.1),
+              two.2,
+              joined,
+              (
+                suc two.4.0,
+                omega arith,
+                (
+                  i,
+                  m.shared,
+                  record {
+                    first = e ∷ [];
+                    second = one.1 ++ two.1;
+                    between = b;
+                    joined = refl;
+                    front = record { reply = e.reply; rest = []; begins = ap (λ x. x ∷ []) entry; goes_on = (refl, refl) };
+                    back = record { first = one.1; second = two.1; between = one.0; joined = refl; front = one.4; back = two.4.2 };
+                  },
+                ),
+              ),
+              two.5,
+            )
       ]
 
   leads-draws : (b : Book) → Leads s w T (Draws s w T) b (stage (runs (by_draw s.depth)) b) last
