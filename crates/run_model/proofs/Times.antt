@@ -1,7 +1,6 @@
 -- The ticks of a lawful run.
 use Rattle.std.proofs.Common.{◌≡◌, ℕ, zero, suc, ◌+◌, ◌*◌, ◌%◌, ◌^◌, ◌<◌, Bool, true, false, List, [], ◌∷◌, Some, slice_get, MatchBool, refl, sym, ap, ◌∙◌, arith, suc-mul, zero-mul}
 use Rattle.step_tables.specs.declared.tables.Script.{Script}
-use Rattle.run_model.specs.Versions.{version_of}
 use Rattle.run_model.specs.Run.{Round}
 use Rattle.run_model.specs.Standing.{Standing, opening, next_tick}
 use Rattle.run_model.specs.Lawful.{Goes}
@@ -22,10 +21,10 @@ stepped_on : (a d k : ℕ) → ((a + d) % 2 ^ 32 + k * d) % 2 ^ 32 ≡ (a + suc 
 stepped_on a d k = omega (arith, suc-mul k d)
 
 -- in version 1 a tick is one step after the one before
-next_is : (s : Script) (r T : ℕ) (st : Standing) → version_of s ≡ 1 → next_tick s r T st ≡ (T + s.step) % 2 ^ 32
+next_is : (s : Script) (r T : ℕ) (st : Standing) → s.version ≡ 1 → next_tick s r T st ≡ (T + s.step) % 2 ^ 32
 next_is s r T st one = rw one refl
 
-times : (s : Script) (rest : Bool) (r T : ℕ) (old : Standing) (rounds : List Round) (k : ℕ) (round : Round) → version_of s ≡ 1 → T < 2 ^ 32 → Goes s rest r T old rounds → slice_get rounds k ≡ Some round → round.tick ≡ (T + k * s.step) % 2 ^ 32
+times : (s : Script) (rest : Bool) (r T : ℕ) (old : Standing) (rounds : List Round) (k : ℕ) (round : Round) → s.version ≡ 1 → T < 2 ^ 32 → Goes s rest r T old rounds → slice_get rounds k ≡ Some round → round.tick ≡ (T + k * s.step) % 2 ^ 32
 times s rest r T old [] k round one below h i = absurd h
 times s rest r T old (x ∷ more) zero round one below h i =
     ap (λ (y : Round). y.tick) (sym (some_inj x round i)) ∙ (h.1.tick ∙ omega (arith, zero-mul s.step))

@@ -171,14 +171,18 @@ piece_sound s w T n (Some i) b es g shared ih e =
       record {
         front = one.front ++ (two.front ++ three.front);
         joined = one.joined ∙ (ap (λ zs. one.front ++ zs) joined ∙ sym (append_assoc one.front (two.front ++ three.front) g.rest));
-        held = (i, shared i refl, record {
-          first = one.front;
-          second = two.front ++ three.front;
-          between = x.0.new;
-          joined = refl;
-          front = one.held;
-          back = record { first = two.front; second = three.front; between = y.0.new; joined = refl; front = two.held; back = three.held };
-        });
+        held = (
+          i,
+          shared i refl,
+          record {
+            first = one.front;
+            second = two.front ++ three.front;
+            between = x.0.new;
+            joined = refl;
+            front = one.held;
+            back = record { first = two.front; second = three.front; between = y.0.new; joined = refl; front = two.held; back = three.held };
+          },
+        );
       },
     )
 

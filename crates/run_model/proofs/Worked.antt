@@ -21,7 +21,6 @@ use Rattle.task_machine.specs.declared.calls.Reply.{Reply}
 use Rattle.task_machine.specs.declared.calls.Reply.TheVariants.{Task, Group, Done}
 use Rattle.task_machine.specs.declared.calls.Entry.{Entry}
 use Rattle.task_machine.specs.Step.{mask_of}
-use Rattle.run_model.specs.Versions.{version_of}
 use Rattle.run_model.specs.Run.{Round, Run}
 use Rattle.run_model.specs.IsLawful.{is_lawful}
 
@@ -29,7 +28,7 @@ use Rattle.run_model.specs.IsLawful.{is_lawful}
 
 abbrev script_of : ℕ → ℕ → ℕ → ℕ → ℕ → List TaskDef → Script
 script_of workers depth start step rounds tasks =
-    record { workers = workers; depth = depth; start = start; step = step; rounds = rounds; tasks = tasks; events = [] }
+    record { version = 1; workers = workers; depth = depth; start = start; step = step; rounds = rounds; tasks = tasks; events = [] }
 
 abbrev task : Kind → Bool → List Row → TaskDef
 task kind init rows = record { name = 97 ∷ []; kind = kind; init = init; rows = rows }
@@ -83,15 +82,15 @@ abbrev no_task : Script
 no_task = script_of 1 200 0 1 5 []
 
 pub no_task_rests : is_lawful no_task (rests (round 0 [] ∷ [])) ≡ true
-unfolding mask_of version_of
+unfolding mask_of
 no_task_rests = refl
 
 pub no_task_goes_no_further : is_lawful no_task (rests (round 0 [] ∷ round 1 [] ∷ [])) ≡ false
-unfolding mask_of version_of
+unfolding mask_of
 no_task_goes_no_further = refl
 
 pub no_task_does_not_stop : is_lawful no_task (stops (round 0 [] ∷ [])) ≡ false
-unfolding mask_of version_of
+unfolding mask_of
 no_task_does_not_stop = refl
 
 -- ---- one task that kills itself
@@ -105,7 +104,7 @@ one_task_turn =
     retire 0 0 (saw Queued 0 true 1) ∷ []
 
 pub one_task_runs : is_lawful one_task (rests (round 0 one_task_turn ∷ [])) ≡ true
-unfolding mask_of version_of
+unfolding mask_of
 one_task_runs = refl
 
 -- ---- a timer past the wrap of ticks
@@ -123,35 +122,61 @@ wrapping_rounds reasons =
     drop_run 0 0 (saw Runs 0 true 2) ∷ retire 0 0 (saw Queued 0 true 2) ∷ []) ∷ []
 
 pub wrapping_runs : is_lawful wrapping (rests (wrapping_rounds timer)) ≡ true
-unfolding mask_of version_of
+unfolding mask_of
 wrapping_runs = refl
 
 pub wrapping_wakes_for_the_timer : is_lawful wrapping (rests (wrapping_rounds io)) ≡ false
-unfolding mask_of version_of
+unfolding mask_of
 wrapping_wakes_for_the_timer = refl
+
+-- in version 2 the tick jumps to the timer
+abbrev second : Script → Script
+second s = record s { version = 2 }
+
+abbrev jumping_rounds : ℕ → List Round
+jumping_rounds tick =
+    round 4294967290 (get 0 0 1 ∷ take 0 0 (saw Queued init false 0) ∷ drop_run 0 0 (saw Runs 0 false 1) ∷ []) ∷
+    round tick (get 0 0 0 ∷ wake 0 0 timer (saw Rest 0 false 1) ∷ take 0 0 (saw Queued timer false 1) ∷ kill 0 0 (saw Runs 0 false 2) ∷
+    drop_run 0 0 (saw Runs 0 true 2) ∷ retire 0 0 (saw Queued 0 true 2) ∷ []) ∷ []
+
+pub jumping_runs : is_lawful (second wrapping) (rests (jumping_rounds 4)) ≡ true
+unfolding mask_of
+jumping_runs = refl
+
+pub jumping_no_further : is_lawful (second wrapping) (rests (jumping_rounds 6)) ≡ false
+unfolding mask_of
+jumping_no_further = refl
+
+pub jumping_in_version_2 : is_lawful wrapping (rests (jumping_rounds 4)) ≡ false
+unfolding mask_of
+jumping_in_version_2 = refl
+
+pub wrapping_in_version_1 : is_lawful (second wrapping) (rests (wrapping_rounds timer)) ≡ false
+unfolding mask_of
+wrapping_in_version_1 = refl
 
 -- a timer that fires a round too early, a call left out, a call made twice
 abbrev wrapping_opens : List Round
 wrapping_opens = round 4294967290 (get 0 0 1 ∷ take 0 0 (saw Queued init false 0) ∷ drop_run 0 0 (saw Runs 0 false 1) ∷ []) ∷ []
 
 pub wrapping_waits_on : is_lawful wrapping (rests wrapping_opens) ≡ false
-unfolding mask_of version_of
+unfolding mask_of
 wrapping_waits_on = refl
 
 pub wrapping_fires_no_earlier : is_lawful wrapping (rests (wrapping_opens ++ (round 4294967294 (get 0 0 0 ∷ wake 0 0 timer (saw Rest 0 false 1) ∷ []) ∷ []))) ≡ false
-unfolding mask_of version_of
+unfolding mask_of
 wrapping_fires_no_earlier = refl
 
 pub one_task_is_retired : is_lawful one_task (rests (round 0 (get 0 0 1 ∷ take 0 0 (saw Queued init false 0) ∷ kill 0 0 (saw Runs 0 false 1) ∷ drop_run 0 0 (saw Runs 0 true 1) ∷ []) ∷ [])) ≡ false
-unfolding mask_of version_of
+unfolding mask_of
 one_task_is_retired = refl
 
 pub one_task_gets_once : is_lawful one_task (rests (round 0 (one_task_turn ++ (get 0 0 0 ∷ [])) ∷ [])) ≡ false
-unfolding mask_of version_of
+unfolding mask_of
 one_task_gets_once = refl
 
 pub one_task_sees_what_is : is_lawful one_task (rests (round 0 (get 0 0 1 ∷ take 0 0 (saw Queued init false 0) ∷ kill 0 0 (saw Runs 0 false 1) ∷ drop_run 0 0 (saw Runs 0 true 1) ∷ retire 0 0 (saw Runs 0 true 1) ∷ []) ∷ [])) ≡ false
-unfolding mask_of version_of
+unfolding mask_of
 one_task_sees_what_is = refl
 
 -- ---- a task that wakes itself at each run, up to the last round
@@ -169,11 +194,11 @@ self_waking_rounds =
     round 1 (self_waking_turn 1 init 0) ∷ round 2 (self_waking_turn 0 other 1) ∷ round 3 (self_waking_turn 0 other 2) ∷ []
 
 pub self_waking_stops : is_lawful self_waking (stops self_waking_rounds) ≡ true
-unfolding mask_of version_of
+unfolding mask_of
 self_waking_stops = refl
 
 pub self_waking_does_not_rest : is_lawful self_waking (rests self_waking_rounds) ≡ false
-unfolding mask_of version_of
+unfolding mask_of
 self_waking_does_not_rest = refl
 
 -- ---- a check with a timer, and an urgent tasklet
@@ -192,7 +217,7 @@ checked_rounds =
     round 1030 (get 0 0 0 ∷ take 0 1 (saw Queued 0 true 1) ∷ retire 0 1 (saw Runs 0 false 2) ∷ []) ∷ []
 
 pub checked_runs : is_lawful checked (rests checked_rounds) ≡ true
-unfolding mask_of version_of
+unfolding mask_of
 checked_runs = refl
 
 -- ---- three shared tasks that are drawn
@@ -219,41 +244,41 @@ abbrev drawn_in_one_round : List ℕ → Run
 drawn_in_one_round ids = rests (round 0 (draws 0 ids) ∷ [])
 
 pub drawn_by_nice : is_lawful (three_shared 1 200) (drawn_in_one_round (2 ∷ 0 ∷ 1 ∷ [])) ≡ true
-unfolding mask_of version_of
+unfolding mask_of
 drawn_by_nice = refl
 
 -- in each other order too
 pub drawn_in_any_order : list_all (λ ids. is_lawful (three_shared 1 200) (drawn_in_one_round ids)) (
-      (2 ∷ 1 ∷ 0 ∷ []) ∷ (0 ∷ 1 ∷ 2 ∷ []) ∷ (0 ∷ 2 ∷ 1 ∷ []) ∷ (1 ∷ 0 ∷ 2 ∷ []) ∷ (1 ∷ 2 ∷ 0 ∷ []) ∷ []
+    (2 ∷ 1 ∷ 0 ∷ []) ∷ (0 ∷ 1 ∷ 2 ∷ []) ∷ (0 ∷ 2 ∷ 1 ∷ []) ∷ (1 ∷ 0 ∷ 2 ∷ []) ∷ (1 ∷ 2 ∷ 0 ∷ []) ∷ []
     ) ≡ true
-unfolding mask_of version_of
+unfolding mask_of
 drawn_in_any_order = refl
 
 -- by two workers, whose calls mix
 pub drawn_by_two : is_lawful (three_shared 2 200) (rests (round 0 (draws 1 (2 ∷ []) ++ (draws 0 (0 ∷ []) ++ piece 1 1)) ∷ [])) ≡ true
-unfolding mask_of version_of
+unfolding mask_of
 drawn_by_two = refl
 
 -- in two rounds, where each worker has made as many draws as it may
 pub drawn_in_two_rounds : is_lawful (three_shared 1 2) (rests (round 0 (draws 0 (2 ∷ 0 ∷ [])) ∷ round 1 (draws 0 (1 ∷ [])) ∷ [])) ≡ true
-unfolding mask_of version_of
+unfolding mask_of
 drawn_in_two_rounds = refl
 
 -- but no more draws than that, and none left out before
 pub drawn_too_often : is_lawful (three_shared 1 2) (drawn_in_one_round (2 ∷ 0 ∷ 1 ∷ [])) ≡ false
-unfolding mask_of version_of
+unfolding mask_of
 drawn_too_often = refl
 
 pub draws_stop_early : is_lawful (three_shared 1 200) (rests (round 0 (draws 0 (2 ∷ 0 ∷ [])) ∷ round 1 (draws 0 (1 ∷ [])) ∷ [])) ≡ false
-unfolding mask_of version_of
+unfolding mask_of
 draws_stop_early = refl
 
 pub never_draws : is_lawful (three_shared 1 200) (stops (round 0 (draws 0 []) ∷ round 1 (draws 0 []) ∷ round 2 (draws 0 []) ∷ round 3 (draws 0 []) ∷ round 4 (draws 0 []) ∷ [])) ≡ false
-unfolding mask_of version_of
+unfolding mask_of
 never_draws = refl
 
 pub takes_what_it_drew : is_lawful (three_shared 1 200) (rests (round 0 (get 0 0 0 ∷ (kills_itself 0 2 ++ (piece 0 0 ++ piece 0 1))) ∷ [])) ≡ false
-unfolding mask_of version_of
+unfolding mask_of
 takes_what_it_drew = refl
 
 -- ---- an event for a task of one worker, whose run wakes one of the other
@@ -263,6 +288,7 @@ post k i to = entry k (Post (record { 0 = i }) to) Done
 
 abbrev posted : Script
 posted = record {
+  version = 1;
   workers = 2;
   depth = 200;
   start = 0;
@@ -280,13 +306,13 @@ posted_rounds woken =
     round 1 (get 1 0 2 ∷ take 1 1 (saw Queued io false 0) ∷ get 0 0 0 ∷ drop_run 1 1 (saw Runs 0 false 1) ∷ []) ∷ []
 
 pub posted_runs : is_lawful posted (rests (posted_rounds (post 0 1 1 ∷ []))) ≡ true
-unfolding mask_of version_of
+unfolding mask_of
 posted_runs = refl
 
 pub posted_to_its_home : is_lawful posted (rests (posted_rounds (post 0 1 0 ∷ []))) ≡ false
-unfolding mask_of version_of
+unfolding mask_of
 posted_to_its_home = refl
 
 pub posted_at_once : is_lawful posted (rests (posted_rounds [])) ≡ false
-unfolding mask_of version_of
+unfolding mask_of
 posted_at_once = refl
