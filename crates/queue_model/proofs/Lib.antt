@@ -1,3 +1,4 @@
+pub mod Settles
 pub mod SweepSteps
 pub mod Walk
 pub mod WalkItems

@@ -11,34 +11,22 @@ use Rattle.sched_base.proofs.Inserted.{Answers, inserted-append_right, filter-in
 use Rattle.queue_model.specs.Ticks.{distance, is_set, is_expired}
 use Rattle.queue_model.specs.WaitList.{WaitItem, WaitList, placed}
 use Rattle.queue_model.specs.Sweep.{due}
-use Rattle.queue_model.specs.SweepStep.{before, onward, fires, first_fired, unset_first, stepped}
+use Rattle.queue_model.specs.SweepStep.{is_due, not_due, DueFirst, before, onward, fires, first_fired, unset_first, swept_once}
 
 pub int_le-fails : (x y : ℤ) → int_le x y ≡ false → y <ℤ x
 int_le-fails x y h = grind (arith, ints)
 
--- whether an item's key is expired
-abbrev pub is_due : ℕ → WaitItem → Bool
-is_due now y = is_expired y.key now
-
--- the items that are not due
-abbrev pub ahead : ℕ → List WaitItem → List WaitItem
-ahead now items = filter (λ (y : WaitItem). not (is_due now y)) items
-
--- the due items stand before the others
-abbrev pub DueFirst : ℕ → List WaitItem → Type 0
-DueFirst now items = filter (is_due now) items ++ ahead now items ≡ items
-
 -- two lists from which a step comes to the same
 pub record SameStep (now : ℕ) (l m : WaitList) : Type 0 where
   pub fired : first_fired now l ≡ first_fired now m
-  pub list : stepped now l ≡ stepped now m
+  pub list : swept_once now l ≡ swept_once now m
 
 -- without a first item that is due nothing is
 pub none_due : (now : ℕ) (y : WaitItem) (ys : List WaitItem) → is_due now y ≡ false → DueFirst now (y ∷ ys) → filter (is_due now) (y ∷ ys) ≡ []
 none_due now y ys h first =
     rw h (empty (filter (is_due now) ys) (filter-passes (is_due now) ys) (rw h at first))
   where
-    empty : (zs : List WaitItem) → Answers true (is_due now) zs → zs ++ y ∷ ahead now ys ≡ y ∷ ys → zs ≡ []
+    empty : (zs : List WaitItem) → Answers true (is_due now) zs → zs ++ y ∷ not_due now ys ≡ y ∷ ys → zs ≡ []
     empty [] all e = refl
     empty (z ∷ zs) all e =
         let same : z ≡ y = cc in
@@ -46,10 +34,10 @@ none_due now y ys h first =
         cc
 
 pub due_first_rest : (now : ℕ) (y : WaitItem) (ys : List WaitItem) → is_due now y ≡ true → DueFirst now (y ∷ ys) → DueFirst now ys
-due_first_rest now y ys h first = let e : y ∷ (filter (is_due now) ys ++ ahead now ys) ≡ y ∷ ys = rw h at first in cc
+due_first_rest now y ys h first = let e : y ∷ (filter (is_due now) ys ++ not_due now ys) ≡ y ∷ ys = rw h at first in cc
 
 -- where nothing is due, a step changes nothing
-pub step_settled : (now : ℕ) (l : WaitList) → due now l ≡ [] → (first_fired now l ≡ None) × (stepped now l ≡ l)
+pub step_settled : (now : ℕ) (l : WaitList) → due now l ≡ [] → (first_fired now l ≡ None) × (swept_once now l ≡ l)
 step_settled now l none =
     (rw none refl, rw none (ap (λ (ys : List WaitItem). let m : WaitList = record { items = ys; expiries = l.expiries } in m) (filter-all (λ (y : WaitItem). not (is_due now y)) l.items (all_ahead l.items none))))
   where
@@ -88,12 +76,12 @@ all-behind P [] all = tt
 all-behind P (x ∷ xs) all = all.1
 
 -- where an item still ahead goes in, behind the due ones
-pub ahead-placed : (now i t : ℕ) (ys : List WaitItem) → is_set t ≡ true → is_expired t now ≡ false → DueFirst now ys → ahead now (placed now i t ys) ≡ placed now i t (ahead now ys)
+pub ahead-placed : (now i t : ℕ) (ys : List WaitItem) → is_set t ≡ true → is_expired t now ≡ false → DueFirst now ys → not_due now (placed now i t ys) ≡ placed now i t (not_due now ys)
 ahead-placed now i t ys set later first =
     let s : WaitItem → Bool = λ z. int_le (distance z.key now) (distance t now) in
     let x : WaitItem = record { key = t; task = i } in
     let d : List WaitItem = filter (is_due now) ys in
-    let a : List WaitItem = ahead now ys in
+    let a : List WaitItem = not_due now ys in
     let nd : WaitItem → Bool = λ z. not (is_due now z) in
     let due_d : Answers true (is_due now) d = filter-passes (is_due now) ys in
     let gone : filter nd d ≡ [] = filter-none nd d (all-weaker (λ (z : WaitItem). is_due now z ≡ true) (λ (z : WaitItem). nd z ≡ false) d (λ z h. not_from_true (is_due now z) h) due_d) in
@@ -114,11 +102,11 @@ step_puts_back now y ys es t is d later set first =
     let e : get_or es y.task 0 ≡ t = sym is in
     let same_due : filter (is_due now) (placed now y.task t ys) ≡ due_d = filter-inserted_out (is_due now) s x ys later in
     let back : List WaitItem = drop 1 (onward f due_d) in
-    let behind : placed now y.task t (back ++ ahead now ys) ≡ back ++ placed now y.task t (ahead now ys) = inserted-append_right s x back (ahead now ys) (due_before now t back set later (all-behind _ (onward f due_d) (all-onward _ f due_d (filter-passes (is_due now) ys)))) in
+    let behind : placed now y.task t (back ++ not_due now ys) ≡ back ++ placed now y.task t (not_due now ys) = inserted-append_right s x back (not_due now ys) (due_before now t back set later (all-behind _ (onward f due_d) (all-onward _ f due_d (filter-passes (is_due now) ys)))) in
     let quiet : f y ≡ false = rw e later in
     let again : List ℕ = map (λ (z : WaitItem). z.task) (filter (λ (z : WaitItem). is_set (get_or es z.task 0)) (before f due_d)) in
     let g : List WaitItem → ℕ → List WaitItem = λ zs i. placed now i (get_or es i 0) zs in
-    let start : back ++ ahead now (placed now y.task t ys) ≡ g (back ++ ahead now ys) y.task = ap (λ (zs : List WaitItem). back ++ zs) (ahead-placed now y.task t ys set later rest) ∙ sym behind ∙ ap (λ k. placed now y.task k (back ++ ahead now ys)) is in
+    let start : back ++ not_due now (placed now y.task t ys) ≡ g (back ++ not_due now ys) y.task = ap (λ (zs : List WaitItem). back ++ zs) (ahead-placed now y.task t ys set later rest) ∙ sym behind ∙ ap (λ k. placed now y.task k (back ++ not_due now ys)) is in
     let set' : is_set (get_or es y.task 0) ≡ true = rw e set in
     record {
       fired = rw (same_due, d) (rw quiet refl);
@@ -136,7 +124,7 @@ step_forgets now y ys es d unset =
     }
 
 -- a first item that fires
-pub step_fires : (now : ℕ) (y : WaitItem) (ys : List WaitItem) (es : List ℕ) → is_due now y ≡ true → fires now (record { items = y ∷ ys; expiries = es }) y ≡ true → DueFirst now (y ∷ ys) → (first_fired now (record { items = y ∷ ys; expiries = es }) ≡ Some y.task) × (stepped now (record { items = y ∷ ys; expiries = es }) ≡ record { items = ys; expiries = set es y.task 0 })
+pub step_fires : (now : ℕ) (y : WaitItem) (ys : List WaitItem) (es : List ℕ) → is_due now y ≡ true → fires now (record { items = y ∷ ys; expiries = es }) y ≡ true → DueFirst now (y ∷ ys) → (first_fired now (record { items = y ∷ ys; expiries = es }) ≡ Some y.task) × (swept_once now (record { items = y ∷ ys; expiries = es }) ≡ record { items = ys; expiries = set es y.task 0 })
 step_fires now y ys es d f first =
     let rest = due_first_rest now y ys d first in
     (rw d (rw f refl), rw (d, f) (ap (λ (zs : List WaitItem). let m : WaitList = record { items = zs; expiries = set es y.task 0 } in m) rest))

@@ -1,16 +1,17 @@
--- Steps of a sweep until none fires come to the sweep.
-use Rattle.std.proofs.Common.{◌≡◌, ℕ, Bool, true, false, not, ◌&&◌, eqb, List, [], ◌∷◌, ◌++◌, Some, None, map, drop, set, get_or, refl, sym, ap, subst, ◌∙◌, inl, inr, append-nil}
+-- SweepsBy of a sweep until none fires come to the sweep.
+use Rattle.std.proofs.Common.{◌≡◌, ℕ, Bool, true, false, not, ◌&&◌, eqb, List, [], ◌∷◌, ◌++◌, Some, None, map, drop, set, get_or, refl, sym, ap, ap₂, subst, ◌∙◌, inl, inr, append-nil}
 use Rattle.std.specs.Prelude.{fold, filter, int_le}
 use Rattle.std.specs.List.{AllByRecursion}
-use Rattle.std.proofs.lemmas.Bool.{cases_Bool, eqb-false, not_from_true, not_from_false}
+use Rattle.std.proofs.lemmas.Bool.{cases_Bool, eqb-false, not-true, not_from_true, not_from_false}
 use Rattle.std.proofs.lemmas.List.{get_or-set_other, map-append}
 use Rattle.std.proofs.lemmas.List.Elements.{filter-append}
-use Rattle.sched_base.proofs.Inserted.{Answers, inserted-append_right, filter-all, filter-none, all-weaker, all-inserted, all-filter}
+use Rattle.sched_base.proofs.Inserted.{Answers, inserted-append_right, filter-all, filter-none, filter-passes, all-weaker, all-inserted, all-filter}
 use Rattle.queue_model.specs.Ticks.{distance, is_set, is_expired}
 use Rattle.queue_model.specs.WaitList.{WaitItem, WaitList, with_expiry, placed}
 use Rattle.queue_model.specs.Sweep.{due, fired, swept}
-use Rattle.queue_model.specs.SweepStep.{before, onward, first_task, stepped, Steps, unset_first}
-use Rattle.queue_model.proofs.SweepSteps.{is_due, ahead, due_before}
+use Rattle.queue_model.specs.Laws.{SweepsGoOn}
+use Rattle.queue_model.specs.SweepStep.{is_due, not_due, TasksApart, before, onward, first_task, first_fired, swept_once, SweepsBy, unset_first}
+use Rattle.queue_model.proofs.SweepSteps.{due_before}
 
 abbrev pub fires_by : ℕ → List ℕ → WaitItem → Bool
 fires_by now es z = is_expired (get_or es z.task 0) now
@@ -32,11 +33,6 @@ tasks zs = map (λ (z : WaitItem). z.task) zs
 
 abbrev pub unset_all : List ℕ → List ℕ → List ℕ
 unset_all es is = fold (λ (m : List ℕ) (i : ℕ). set m i 0) es is
-
--- no task has two of these items
-abbrev pub TasksApart : List WaitItem → Type 0
-TasksApart [] = Unit {0}
-TasksApart (y ∷ ys) = AllByRecursion (λ (z : WaitItem). eqb y.task z.task ≡ false) ys × TasksApart ys
 
 pub apart_behind : (xs : List WaitItem) (y : WaitItem) (ys : List WaitItem) → TasksApart (xs ++ y ∷ ys) → TasksApart (y ∷ ys)
 apart_behind [] y ys h = h
@@ -140,14 +136,14 @@ swept_of now es d a = list_of (fold (place_by now es) a (tasks (filter (back_by 
 pub due_is : (now : ℕ) (d a : List WaitItem) → Answers true (is_due now) d → Answers false (is_due now) a → filter (is_due now) (d ++ a) ≡ d
 due_is now d a due_d ahead_a = filter-append (is_due now) d a ∙ rw (filter-all (is_due now) d due_d, filter-none (is_due now) a ahead_a) (append-nil d)
 
-pub ahead_is : (now : ℕ) (d a : List WaitItem) → Answers true (is_due now) d → Answers false (is_due now) a → ahead now (d ++ a) ≡ a
+pub ahead_is : (now : ℕ) (d a : List WaitItem) → Answers true (is_due now) d → Answers false (is_due now) a → not_due now (d ++ a) ≡ a
 ahead_is now d a due_d ahead_a =
     let nd : WaitItem → Bool = λ z. not (is_due now z) in
     filter-append nd d a ∙ rw (filter-none nd d (all-weaker (λ (z : WaitItem). is_due now z ≡ true) (λ (z : WaitItem). nd z ≡ false) d (λ z h. not_from_true _ h) due_d), filter-all nd a (all-weaker (λ (z : WaitItem). is_due now z ≡ false) (λ (z : WaitItem). nd z ≡ true) a (λ z h. not_from_false _ h) ahead_a)) refl
 
 -- a step in these words
-pub stepped_is : (now : ℕ) (es : List ℕ) (d a o : List WaitItem) → Answers true (is_due now) d → Answers false (is_due now) a → onward (fires_by now es) d ≡ o → stepped now (list_of (d ++ a) es) ≡ list_of (fold (place_by now es) (drop 1 o ++ a) (tasks (filter (set_by es) (before (fires_by now es) d)))) (unset_first o es)
-stepped_is now es d a o due_d ahead_a e =
+pub swept_once_is : (now : ℕ) (es : List ℕ) (d a o : List WaitItem) → Answers true (is_due now) d → Answers false (is_due now) a → onward (fires_by now es) d ≡ o → swept_once now (list_of (d ++ a) es) ≡ list_of (fold (place_by now es) (drop 1 o ++ a) (tasks (filter (set_by es) (before (fires_by now es) d)))) (unset_first o es)
+swept_once_is now es d a o due_d ahead_a e =
     rw (due_is now d a due_d ahead_a, ahead_is now d a due_d ahead_a) (rw e refl)
 
 pub rest_due : (now : ℕ) (xs : List WaitItem) (y : WaitItem) (ys : List WaitItem) → Answers true (is_due now) (xs ++ y ∷ ys) → Answers true (is_due now) ys
@@ -157,18 +153,21 @@ rest_due now (x ∷ xs) y ys h = rest_due now xs y ys h.1
 pub no_back : (now : ℕ) (es : List ℕ) (y : WaitItem) → fires_by now es y ≡ true → back_by now es y ≡ false
 no_back now es y h = elim (cases_Bool (set_by es y)) [ inl k ↦ rw (k, h) refl | inr k ↦ rw k refl ]
 
-pub steps_sweep : (now : ℕ) (es : List ℕ) (d a : List WaitItem) (is : List ℕ) (new : WaitList) → Answers true (is_due now) d → Answers false (is_due now) a → TasksApart d → Steps now (list_of (d ++ a) es) is new → (is ≡ tasks (filter (fires_by now es) d)) × (new ≡ swept_of now es d a)
-steps_sweep now es d a [] new due_d ahead_a apart h =
-    let f : WaitItem → Bool = fires_by now es in
-    let none : first_task (onward f d) ≡ None = rw (due_is now d a due_d ahead_a) at h.0 in
-    let o : onward f d ≡ [] = onward_none (onward f d) none in
-    let all : before f d ≡ d = sym (append-nil (before f d)) ∙ ap (λ (zs : List WaitItem). before f d ++ zs) (sym o) ∙ before-onward f d in
-    let quiet : Answers false f d = subst (λ (zs : List WaitItem). Answers false f zs) all (before_quiet f d) in
-    let fires_none : filter f d ≡ [] = filter-none f d quiet in
-    let end : stepped now (list_of (d ++ a) es) ≡ list_of (fold (place_by now es) a (tasks (filter (set_by es) d))) es = stepped_is now es d a [] due_d ahead_a o ∙ ap (λ (zs : List WaitItem). list_of (fold (place_by now es) a (tasks (filter (set_by es) zs))) es) all in
-    (rw fires_none refl, h.1 ∙ end ∙ rw (back_is_set now es d quiet, fires_none) refl)
-steps_sweep now es d a (i ∷ is) new due_d ahead_a apart h =
-    let some : first_task (onward (fires_by now es) d) ≡ Some i = rw (due_is now d a due_d ahead_a) at h.0 in
+-- a step that fires a task, in these words: due items and others as they stand after it, from which the sweep goes on
+pub record OneFired (now : ℕ) (es : List ℕ) (d a : List WaitItem) (i : ℕ) : Type 0 where
+  pub due : List WaitItem
+  pub others : List WaitItem
+  pub expiries : List ℕ
+  pub due_ones : Answers true (is_due now) due
+  pub not_due_ones : Answers false (is_due now) others
+  pub apart : TasksApart due
+  pub step : swept_once now (list_of (d ++ a) es) ≡ list_of (due ++ others) expiries
+  pub fires : tasks (filter (fires_by now es) d) ≡ i ∷ tasks (filter (fires_by now expiries) due)
+  pub rest : swept_of now expiries due others ≡ swept_of now es d a
+
+pub one_fired : (now : ℕ) (es : List ℕ) (d a : List WaitItem) (i : ℕ) → Answers true (is_due now) d → Answers false (is_due now) a → TasksApart d → first_fired now (list_of (d ++ a) es) ≡ Some i → OneFired now es d a i
+one_fired now es d a i due_d ahead_a apart h =
+    let some : first_task (onward (fires_by now es) d) ≡ Some i = rw (due_is now d a due_d ahead_a) at h in
     let w = onward_some (onward (fires_by now es) d) i some in
     let y : WaitItem = w.0 in
     let ys : List WaitItem = w.1 in
@@ -186,9 +185,7 @@ steps_sweep now es d a (i ∷ is) new due_d ahead_a apart h =
     let due_all : Answers true (is_due now) (p ++ y ∷ ys) = subst (λ (zs : List WaitItem). Answers true (is_due now) zs) (sym whole) due_d in
     let due_ys : Answers true (is_due now) ys = rest_due now p y ys due_all in
     let a' : List WaitItem = fold (place_by now es) a ps in
-    let step : stepped now (list_of (d ++ a) es) ≡ list_of (ys ++ a') es' = stepped_is now es d a (y ∷ ys) due_d ahead_a e ∙ ap (λ (zs : List WaitItem). list_of zs es') (fold_behind now es ps ys a ready due_ys) in
-    let after : Steps now (list_of (ys ++ a') es') is new = subst (λ (l : WaitList). Steps now l is new) step h.1 in
-    let ih = steps_sweep now es' ys a' is new due_ys (fold_ahead now es ps a ready ahead_a) behind.1 after in
+    let step : swept_once now (list_of (d ++ a) es) ≡ list_of (ys ++ a') es' = swept_once_is now es d a (y ∷ ys) due_d ahead_a e ∙ ap (λ (zs : List WaitItem). list_of zs es') (fold_behind now es ps ys a ready due_ys) in
     let same_fires : filter (fires_by now es') ys ≡ filter f ys = filter_other (λ t. is_expired t now) es y.task ys behind.0 in
     let same_back : filter (back_by now es') ys ≡ filter (back_by now es) ys = filter_other (λ t. is_set t && not (is_expired t now)) es y.task ys behind.0 in
     let fires_all : filter f d ≡ y ∷ filter f ys = ap (filter f) (sym whole) ∙ filter-append f p (y ∷ ys) ∙ rw (filter-none f p quiet) (rw goes refl) in
@@ -199,14 +196,73 @@ steps_sweep now es d a (i ∷ is) new due_d ahead_a apart h =
     ap (λ (zs : List WaitItem). fold (place_by now es') a' (tasks zs)) same_back
     ∙ fold_other now es y.task (tasks (filter (back_by now es) ys)) a' (tasks_other y.task (back_by now es) ys behind.0)
     ∙ sym (ap (fold (place_by now es) a) back_tasks ∙ fold-append (place_by now es) a ps (tasks (filter (back_by now es) ys))) in
-    let expiries : unset_all es' (tasks (filter (fires_by now es') ys)) ≡ unset_all es (tasks (filter f d)) = rw (same_fires, fires_all) refl in (
-      rw fires_all (rw own (ap (λ (js : List ℕ). i ∷ js) (ih.0 ∙ ap tasks same_fires))),
-      ih.1 ∙ rw (items, expiries) refl,
-    )
+    let expiries : unset_all es' (tasks (filter (fires_by now es') ys)) ≡ unset_all es (tasks (filter f d)) = rw (same_fires, fires_all) refl in
+    record {
+      due = ys;
+      others = a';
+      expiries = es';
+      due_ones = due_ys;
+      not_due_ones = fold_ahead now es ps a ready ahead_a;
+      apart = behind.1;
+      step = step;
+      fires = ap tasks fires_all ∙ ap₂ (λ (j : ℕ) (js : List ℕ). j ∷ js) own (ap tasks (sym same_fires));
+      rest = rw (items, expiries) refl;
+    }
+
+-- a step that fires none is the sweep
+pub none_fired : (now : ℕ) (es : List ℕ) (d a : List WaitItem) → Answers true (is_due now) d → Answers false (is_due now) a → first_fired now (list_of (d ++ a) es) ≡ None → (tasks (filter (fires_by now es) d) ≡ []) × (swept_once now (list_of (d ++ a) es) ≡ swept_of now es d a)
+none_fired now es d a due_d ahead_a h =
+    let f : WaitItem → Bool = fires_by now es in
+    let none : first_task (onward f d) ≡ None = rw (due_is now d a due_d ahead_a) at h in
+    let o : onward f d ≡ [] = onward_none (onward f d) none in
+    let all : before f d ≡ d = sym (append-nil (before f d)) ∙ ap (λ (zs : List WaitItem). before f d ++ zs) (sym o) ∙ before-onward f d in
+    let quiet : Answers false f d = subst (λ (zs : List WaitItem). Answers false f zs) all (before_quiet f d) in
+    let fires_none : filter f d ≡ [] = filter-none f d quiet in
+    let end : swept_once now (list_of (d ++ a) es) ≡ list_of (fold (place_by now es) a (tasks (filter (set_by es) d))) es = swept_once_is now es d a [] due_d ahead_a o ∙ ap (λ (zs : List WaitItem). list_of (fold (place_by now es) a (tasks (filter (set_by es) zs))) es) all in
+    (rw fires_none refl, end ∙ rw (back_is_set now es d quiet, fires_none) refl)
+
+pub steps_sweep : (now : ℕ) (es : List ℕ) (d a : List WaitItem) (is : List ℕ) (new : WaitList) → Answers true (is_due now) d → Answers false (is_due now) a → TasksApart d → SweepsBy now (list_of (d ++ a) es) is new → (is ≡ tasks (filter (fires_by now es) d)) × (new ≡ swept_of now es d a)
+steps_sweep now es d a [] new due_d ahead_a apart h =
+    let o = none_fired now es d a due_d ahead_a h.0 in
+    (sym o.0, h.1 ∙ o.1)
+steps_sweep now es d a (i ∷ is) new due_d ahead_a apart h =
+    let o = one_fired now es d a i due_d ahead_a apart h.0 in
+    let after : SweepsBy now (list_of (o.due ++ o.others) o.expiries) is new = subst (λ (l : WaitList). SweepsBy now l is new) o.step h.1 in
+    let ih = steps_sweep now o.expiries o.due o.others is new o.due_ones o.not_due_ones o.apart after in
+    (ap (λ (js : List ℕ). i ∷ js) ih.0 ∙ sym o.fires, ih.1 ∙ o.rest)
 
 pub unset-fold : (l : WaitList) (is : List ℕ) → (fold (λ (m : WaitList) (i : ℕ). with_expiry i 0 m) l is).expiries ≡ unset_all l.expiries is
 unset-fold l [] = refl
 unset-fold l (i ∷ is) = unset-fold (with_expiry i 0 l) is
 
-pub swept_is : (now : ℕ) (l : WaitList) → swept now l ≡ swept_of now l.expiries (due now l) (ahead now l.items)
+pub swept_is : (now : ℕ) (l : WaitList) → swept now l ≡ swept_of now l.expiries (due now l) (not_due now l.items)
 swept_is now l = rw (unset-fold l (fired now l)) refl
+
+-- the sweep of due items and others
+pub swept_list : (now : ℕ) (es : List ℕ) (d a : List WaitItem) → Answers true (is_due now) d → Answers false (is_due now) a → (fired now (list_of (d ++ a) es) ≡ tasks (filter (fires_by now es) d)) × (swept now (list_of (d ++ a) es) ≡ swept_of now es d a)
+swept_list now es d a due_d ahead_a =
+    let e = due_is now d a due_d ahead_a in
+    (rw e refl, swept_is now (list_of (d ++ a) es) ∙ ap₂ (λ (x y : List WaitItem). swept_of now es x y) e (ahead_is now d a due_d ahead_a))
+
+-- a step fires the first of those that the sweep fires, and the sweep of what it leaves is the rest of the sweep
+pub sweeps_on : SweepsGoOn
+sweeps_on now l first apart =
+    let es : List ℕ = l.expiries in
+    let d : List WaitItem = due now l in
+    let a : List WaitItem = not_due now l.items in
+    let due_d : Answers true (is_due now) d = filter-passes (is_due now) l.items in
+    let ahead_a : Answers false (is_due now) a = all-weaker (λ (z : WaitItem). not (is_due now z) ≡ true) (λ (z : WaitItem). is_due now z ≡ false) a (λ z h. not-true (is_due now z) h) (filter-passes (λ (z : WaitItem). not (is_due now z)) l.items) in
+    let is : list_of (d ++ a) es ≡ l = ap (λ (zs : List WaitItem). list_of zs es) first in
+    let old = swept_list now es d a due_d ahead_a in
+    record {
+      none = λ h.
+          let o = none_fired now es d a due_d ahead_a (ap (first_fired now) is ∙ h) in
+          (ap (fired now) (sym is) ∙ old.0 ∙ o.0, ap (swept now) (sym is) ∙ old.1 ∙ sym o.1 ∙ ap (swept_once now) is);
+      some = λ i h.
+          let o = one_fired now es d a i due_d ahead_a apart (ap (first_fired now) is ∙ h) in
+          let new = swept_list now o.expiries o.due o.others o.due_ones o.not_due_ones in
+          let step : swept_once now l ≡ list_of (o.due ++ o.others) o.expiries = ap (swept_once now) (sym is) ∙ o.step in (
+            ap (fired now) (sym is) ∙ old.0 ∙ o.fires ∙ ap (λ (js : List ℕ). i ∷ js) (sym new.0 ∙ ap (fired now) (sym step)),
+            ap (swept now) (sym is) ∙ old.1 ∙ sym o.rest ∙ sym new.1 ∙ ap (swept now) (sym step),
+          );
+    }

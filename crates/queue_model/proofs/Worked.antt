@@ -5,6 +5,7 @@ use Rattle.queue_model.specs.Ticks.{is_expired, later}
 use Rattle.queue_model.specs.RunList.{RunList, arrived, least, gathered, hands_out}
 use Rattle.queue_model.specs.WaitList.{WaitList, with_expiry, armed}
 use Rattle.queue_model.specs.Sweep.{fired, swept, forgotten}
+use Rattle.queue_model.specs.Settle.{settled}
 use Rattle.queue_model.specs.Classes.{Classes, quotas, next_run}
 use Rattle.sched_base.specs.declared.names.Class.TheVariants.{Urgent, Heavy}
 
@@ -89,6 +90,23 @@ forgets = (refl, refl)
 
 pub forgotten_leaves : (swept 22 (with_expiry 0 0 (armed_twice 35))).items ≡ []
 forgotten_leaves = refl
+
+-- settled, it stands at 35; with its expiry unset nothing is left
+pub settles : settled 6 (armed_twice 35) ≡ record { items = record { key = 35; task = 0 } ∷ []; expiries = 35 ∷ [] }
+settles = refl
+
+pub settles_empty : settled 6 (with_expiry 0 0 (armed_twice 35)) ≡ record { items = []; expiries = 0 ∷ [] }
+settles_empty = refl
+
+-- settled lists that need no move, and one whose second item comes first then
+abbrev two_timers : List ℕ → WaitList
+two_timers expiries = record { items = record { key = 20; task = 0 } ∷ record { key = 30; task = 1 } ∷ []; expiries = expiries }
+
+pub stays_settled : settled 6 (two_timers (20 ∷ 40 ∷ [])) ≡ two_timers (20 ∷ 40 ∷ [])
+stays_settled = refl
+
+pub settles_past : settled 6 (two_timers (50 ∷ 40 ∷ [])) ≡ record { items = record { key = 40; task = 1 } ∷ record { key = 50; task = 0 } ∷ []; expiries = 50 ∷ 40 ∷ [] }
+settles_past = refl
 
 -- a row of lists, by what they hold
 abbrev lists : List ℕ → List ℕ → List ℕ → List ℕ → Classes (List ℕ)

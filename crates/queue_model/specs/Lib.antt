@@ -6,4 +6,6 @@ pub mod RunList
 pub mod WaitList
 pub mod Sweep
 pub mod SweepStep
+pub mod Settle
+pub mod Clock
 pub mod Classes

@@ -5,5 +5,6 @@
 mod laws;
 
 pub use laws::{
-    walks_begin_by_look_ups, walks_go_by_distance, walks_stay_in_the_window, walks_take_insertions,
+    settled_lists, sweeps_go_on, walks_begin_by_look_ups, walks_go_by_distance,
+    walks_stay_in_the_window, walks_take_insertions,
 };

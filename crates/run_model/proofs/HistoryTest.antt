@@ -6,7 +6,7 @@ use Rattle.task_machine.specs.declared.task.Seen.{Seen}
 use Rattle.task_machine.specs.declared.task.Seen.TheVariants.{Live, Gone}
 use Rattle.task_machine.specs.declared.task.TaskState.{TaskState}
 use Rattle.task_machine.specs.declared.calls.Call.{Call}
-use Rattle.task_machine.specs.declared.calls.Call.TheVariants.{Wake, Kill, Post, Get, Take, DropRun, Retire}
+use Rattle.task_machine.specs.declared.calls.Call.TheVariants.{Wake, Kill, Post, Get, Draw, Take, DropRun, Retire}
 use Rattle.task_machine.specs.declared.calls.Reply.{Reply}
 use Rattle.task_machine.specs.declared.calls.Reply.TheVariants.{Task, Group, Done}
 use Rattle.task_machine.specs.declared.calls.Entry.{Entry}
@@ -69,6 +69,7 @@ roomy_true (Wake i f) t e = tt
 roomy_true (Kill i) t e = tt
 roomy_true (Post i b) t e = tt
 roomy_true (Get g) t e = tt
+roomy_true (Draw i) t e = tt
 roomy_true (Take i) t e = ltb-true _ _ e
 roomy_true (DropRun i) t e = tt
 roomy_true (Retire i) t e = tt
@@ -78,6 +79,7 @@ true_roomy (Wake i f) t h = refl
 true_roomy (Kill i) t h = refl
 true_roomy (Post i b) t h = refl
 true_roomy (Get g) t h = refl
+true_roomy (Draw i) t h = refl
 true_roomy (Take i) t h = lt-ltb _ _ h
 true_roomy (DropRun i) t h = refl
 true_roomy (Retire i) t h = refl

@@ -1,5 +1,7 @@
 -- Worked runs, by computation: whole transcripts that are lawful, and damaged ones that are not.
 use Rattle.std.specs.Prelude.{◌≡◌, ℕ, ◌+◌, Bool, true, false, List, [], ◌∷◌, ◌++◌, ℤ, pos, negsuc, refl}
+use Rattle.std.specs.List.{list_all, flat_map}
+use Rattle.sched_base.specs.ReasonNames.{init, timer, io, other}
 use Rattle.sched_base.specs.declared.names.Class.TheVariants.{Urgent}
 use Rattle.step_tables.specs.declared.tables.Action.{Action}
 use Rattle.step_tables.specs.declared.tables.Action.TheVariants.{Wake as Wakes, Kill as Kills}
@@ -14,7 +16,7 @@ use Rattle.task_machine.specs.declared.task.Stand.{Stand}
 use Rattle.task_machine.specs.declared.task.Stand.TheVariants.{Rest, Queued, Runs}
 use Rattle.task_machine.specs.declared.task.Seen.TheVariants.{Live}
 use Rattle.task_machine.specs.declared.calls.Call.{Call}
-use Rattle.task_machine.specs.declared.calls.Call.TheVariants.{Wake, Kill, Post, Get, Take, DropRun, Retire}
+use Rattle.task_machine.specs.declared.calls.Call.TheVariants.{Wake, Kill, Post, Get, Draw, Take, DropRun, Retire}
 use Rattle.task_machine.specs.declared.calls.Reply.{Reply}
 use Rattle.task_machine.specs.declared.calls.Reply.TheVariants.{Task, Group, Done}
 use Rattle.task_machine.specs.declared.calls.Entry.{Entry}
@@ -24,22 +26,9 @@ use Rattle.run_model.specs.IsLawful.{is_lawful}
 
 -- ---- short forms
 
--- reasons by number
-abbrev init : ℕ
-init = 1
-
-abbrev timer : ℕ
-timer = 2
-
-abbrev io : ℕ
-io = 4
-
-abbrev other : ℕ
-other = 64
-
 abbrev script_of : ℕ → ℕ → ℕ → ℕ → ℕ → List TaskDef → Script
 script_of workers depth start step rounds tasks =
-    record { workers = workers; depth = depth; start = start; step = step; rounds = rounds; tasks = tasks; events = [] }
+    record { version = 1; workers = workers; depth = depth; start = start; step = step; rounds = rounds; tasks = tasks; events = [] }
 
 abbrev task : Kind → Bool → List Row → TaskDef
 task kind init rows = record { name = 97 ∷ []; kind = kind; init = init; rows = rows }
@@ -140,6 +129,32 @@ pub wrapping_wakes_for_the_timer : is_lawful wrapping (rests (wrapping_rounds io
 unfolding mask_of
 wrapping_wakes_for_the_timer = refl
 
+-- in version 2 the tick jumps to the timer
+abbrev second : Script → Script
+second s = record s { version = 2 }
+
+abbrev jumping_rounds : ℕ → List Round
+jumping_rounds tick =
+    round 4294967290 (get 0 0 1 ∷ take 0 0 (saw Queued init false 0) ∷ drop_run 0 0 (saw Runs 0 false 1) ∷ []) ∷
+    round tick (get 0 0 0 ∷ wake 0 0 timer (saw Rest 0 false 1) ∷ take 0 0 (saw Queued timer false 1) ∷ kill 0 0 (saw Runs 0 false 2) ∷
+    drop_run 0 0 (saw Runs 0 true 2) ∷ retire 0 0 (saw Queued 0 true 2) ∷ []) ∷ []
+
+pub jumping_runs : is_lawful (second wrapping) (rests (jumping_rounds 4)) ≡ true
+unfolding mask_of
+jumping_runs = refl
+
+pub jumping_no_further : is_lawful (second wrapping) (rests (jumping_rounds 6)) ≡ false
+unfolding mask_of
+jumping_no_further = refl
+
+pub jumping_in_version_2 : is_lawful wrapping (rests (jumping_rounds 4)) ≡ false
+unfolding mask_of
+jumping_in_version_2 = refl
+
+pub wrapping_in_version_1 : is_lawful (second wrapping) (rests (wrapping_rounds timer)) ≡ false
+unfolding mask_of
+wrapping_in_version_1 = refl
+
 -- a timer that fires a round too early, a call left out, a call made twice
 abbrev wrapping_opens : List Round
 wrapping_opens = round 4294967290 (get 0 0 1 ∷ take 0 0 (saw Queued init false 0) ∷ drop_run 0 0 (saw Runs 0 false 1) ∷ []) ∷ []
@@ -205,36 +220,66 @@ pub checked_runs : is_lawful checked (rests checked_rounds) ≡ true
 unfolding mask_of
 checked_runs = refl
 
--- ---- three shared tasks that are dealt to two workers
+-- ---- three shared tasks that are drawn
 
 abbrev shared : ℤ → ℕ → TaskDef
 shared nice i = task (Shared nice) true (row (kills i ∷ []) Keep 0 ∷ [])
 
-abbrev dealt_tasks : Script
-dealt_tasks = script_of 2 200 0 1 5 (shared (pos 0) 0 ∷ shared (pos 1) 1 ∷ shared (negsuc 0) 2 ∷ [])
+abbrev three_shared : ℕ → ℕ → Script
+three_shared workers depth = script_of workers depth 0 1 5 (shared (pos 0) 0 ∷ shared (pos 1) 1 ∷ shared (negsuc 0) 2 ∷ [])
 
 abbrev kills_itself : ℕ → ℕ → List Entry
 kills_itself k i =
     take k i (saw Queued init false 0) ∷ kill k i (saw Runs 0 false 1) ∷ drop_run k i (saw Runs 0 true 1) ∷ retire k i (saw Queued 0 true 1) ∷ []
 
-abbrev first_worker : List Entry
-first_worker = get 0 0 6 ∷ (kills_itself 0 2 ++ kills_itself 0 1)
+-- a task drawn and run
+abbrev piece : ℕ → ℕ → List Entry
+piece k i = entry k (Draw (record { 0 = i })) Done ∷ kills_itself k i
 
-abbrev second_worker : List Entry
-second_worker = get 1 0 1 ∷ kills_itself 1 0
+-- a turn that gets nothing and draws these tasks
+abbrev draws : ℕ → List ℕ → List Entry
+draws k ids = get k 0 0 ∷ flat_map (piece k) ids
 
-pub dealt_runs : is_lawful dealt_tasks (rests (round 0 (first_worker ++ second_worker) ∷ [])) ≡ true
+abbrev drawn_in_one_round : List ℕ → Run
+drawn_in_one_round ids = rests (round 0 (draws 0 ids) ∷ [])
+
+pub drawn_by_nice : is_lawful (three_shared 1 200) (drawn_in_one_round (2 ∷ 0 ∷ 1 ∷ [])) ≡ true
 unfolding mask_of
-dealt_runs = refl
+drawn_by_nice = refl
 
--- in the other order too, but not where the one worker takes its tasks in another order
-pub dealt_runs_too : is_lawful dealt_tasks (rests (round 0 (second_worker ++ first_worker) ∷ [])) ≡ true
+-- in each other order too
+pub drawn_in_any_order : list_all (λ ids. is_lawful (three_shared 1 200) (drawn_in_one_round ids)) (
+    (2 ∷ 1 ∷ 0 ∷ []) ∷ (0 ∷ 1 ∷ 2 ∷ []) ∷ (0 ∷ 2 ∷ 1 ∷ []) ∷ (1 ∷ 0 ∷ 2 ∷ []) ∷ (1 ∷ 2 ∷ 0 ∷ []) ∷ []
+    ) ≡ true
 unfolding mask_of
-dealt_runs_too = refl
+drawn_in_any_order = refl
 
-pub dealt_by_nice : is_lawful dealt_tasks (rests (round 0 (second_worker ++ (get 0 0 6 ∷ (kills_itself 0 1 ++ kills_itself 0 2))) ∷ [])) ≡ false
+-- by two workers, whose calls mix
+pub drawn_by_two : is_lawful (three_shared 2 200) (rests (round 0 (draws 1 (2 ∷ []) ++ (draws 0 (0 ∷ []) ++ piece 1 1)) ∷ [])) ≡ true
 unfolding mask_of
-dealt_by_nice = refl
+drawn_by_two = refl
+
+-- in two rounds, where each worker has made as many draws as it may
+pub drawn_in_two_rounds : is_lawful (three_shared 1 2) (rests (round 0 (draws 0 (2 ∷ 0 ∷ [])) ∷ round 1 (draws 0 (1 ∷ [])) ∷ [])) ≡ true
+unfolding mask_of
+drawn_in_two_rounds = refl
+
+-- but no more draws than that, and none left out before
+pub drawn_too_often : is_lawful (three_shared 1 2) (drawn_in_one_round (2 ∷ 0 ∷ 1 ∷ [])) ≡ false
+unfolding mask_of
+drawn_too_often = refl
+
+pub draws_stop_early : is_lawful (three_shared 1 200) (rests (round 0 (draws 0 (2 ∷ 0 ∷ [])) ∷ round 1 (draws 0 (1 ∷ [])) ∷ [])) ≡ false
+unfolding mask_of
+draws_stop_early = refl
+
+pub never_draws : is_lawful (three_shared 1 200) (stops (round 0 (draws 0 []) ∷ round 1 (draws 0 []) ∷ round 2 (draws 0 []) ∷ round 3 (draws 0 []) ∷ round 4 (draws 0 []) ∷ [])) ≡ false
+unfolding mask_of
+never_draws = refl
+
+pub takes_what_it_drew : is_lawful (three_shared 1 200) (rests (round 0 (get 0 0 0 ∷ (kills_itself 0 2 ++ (piece 0 0 ++ piece 0 1))) ∷ [])) ≡ false
+unfolding mask_of
+takes_what_it_drew = refl
 
 -- ---- an event for a task of one worker, whose run wakes one of the other
 
@@ -243,6 +288,7 @@ post k i to = entry k (Post (record { 0 = i }) to) Done
 
 abbrev posted : Script
 posted = record {
+  version = 1;
   workers = 2;
   depth = 200;
   start = 0;

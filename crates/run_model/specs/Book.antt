@@ -1,5 +1,5 @@
 -- What a worker keeps, and how it changes (docs/MODEL.md, "Rows and books").
-use Rattle.std.specs.Prelude.{ℕ, ◌-◌, List, [], ◌∷◌, length, fold, slice_index, slice_set}
+use Rattle.std.specs.Prelude.{ℕ, ◌-◌, List, [], ◌∷◌, length, fold}
 use Rattle.sched_base.specs.declared.names.Class.{Class}
 use Rattle.sched_base.specs.declared.names.Class.TheVariants.{Normal}
 use Rattle.queue_model.specs.Ticks.{later}
@@ -12,26 +12,13 @@ use Rattle.step_tables.specs.declared.tables.Kind.{Kind}
 use Rattle.step_tables.specs.declared.tables.Kind.TheVariants.{Pinned, Shared, Tasklet}
 use Rattle.step_tables.specs.declared.tables.Row.{Row}
 use Rattle.step_tables.specs.declared.tables.Script.{Script}
-use Rattle.run_model.specs.Tables.{def_of, row_at}
+use Rattle.run_model.specs.Tables.{def_of}
 
--- a worker's book: the rows of its tasks, its wait list, its run list and its class lists
--- (a row counts only where the task is the worker's)
+-- a worker's book: its wait list, its run list and its class lists
 pub record Book : Type 0 where
-  pub rows : List ℕ
   pub wait : WaitList
   pub run : RunList
   pub lists : Classes (List ℕ)
-
--- the row of a task in a book, by number and as it stands in the script
-abbrev pub row_in : ℕ → Book → ℕ
-row_in i b = slice_index b.rows i
-
-abbrev pub row_of : Script → ℕ → Book → Row
-row_of s i b = row_at s i (row_in i b)
-
--- that row changed
-abbrev pub with_row : ℕ → ℕ → Book → Book
-with_row i n b = record b { rows = slice_set b.rows i n }
 
 -- a task of this kind queued: put into the run list with its nice, or a tasklet at the end of its class's list
 abbrev pub queued_as : Kind → Script → ℕ → Book → Book
@@ -57,9 +44,9 @@ filled depth b =
 abbrev pub taken_from : Class → Book → Book
 taken_from k b = record b { lists = popped k b.lists }
 
--- a task dropped from the wait list, its expiry unset
-abbrev pub dropped : ℕ → Book → Book
-dropped i b = record b { wait = unlinked i b.wait }
+-- a task unlinked from the wait list, its expiry unset
+abbrev pub untimed : ℕ → Book → Book
+untimed i b = record b { wait = unlinked i b.wait }
 
 -- a row's expiry at tick T: kept, set so many ticks ahead and armed, or unset with a standing item left in place
 abbrev pub timed : ℕ → ℕ → Expiry → WaitList → WaitList
@@ -67,6 +54,6 @@ timed T i Keep l = l
 timed T i (After delay) l = armed T i (with_expiry i (later T delay) l)
 timed T i Never l = with_expiry i 0 l
 
--- what follows the actions of a row: its expiry, and the next row
+-- what follows the actions of a row: its expiry
 abbrev pub row_ended : ℕ → ℕ → Row → Book → Book
-row_ended T i row b = with_row i row.next (record b { wait = timed T i row.expiry b.wait })
+row_ended T i row b = record b { wait = timed T i row.expiry b.wait }

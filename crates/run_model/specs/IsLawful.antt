@@ -17,9 +17,9 @@ use Rattle.task_machine.specs.Step.{State, task_at, subject, is_named, fits, rep
 use Rattle.task_machine.specs.History.{stepped, led, calls_of}
 use Rattle.run_model.specs.Run.{Round, Run}
 use Rattle.run_model.specs.Book.{Book}
-use Rattle.run_model.specs.Reader.{Reader}
+use Rattle.run_model.specs.Reader.{Reader, in_turn, quietly}
 use Rattle.run_model.specs.TurnReader.{turning, injecting}
-use Rattle.run_model.specs.Standing.{Standing, opening, dealt, next_tick, is_at_rest}
+use Rattle.run_model.specs.Standing.{Standing, opening, is_served, turn_ended, next_tick, is_at_rest}
 
 -- whether two stands, two sights of a task, or two replies are the same
 abbrev pub same_stand : Stand → Stand → Bool
@@ -72,14 +72,14 @@ reads_all r b es = option_and_then (λ g. if_none_left g.new g.rest) (r b es)
 abbrev pub books_after : Script → ℕ → List Entry → ℕ → List Book → Option (List Book)
 books_after s T es w [] = Some []
 books_after s T es w (b ∷ bs) =
-    option_and_then (λ c. option_map (λ cs. c ∷ cs) (books_after s T es (w + 1) bs)) (reads_all (turning s (record { 0 = w }) T) b (calls_of w es))
+    option_and_then (λ c. option_map (λ cs. c ∷ cs) (books_after s T es (w + 1) bs)) (reads_all (in_turn (turning s (record { 0 = w }) T) (quietly (turn_ended s T))) b (calls_of w es))
 
 -- whether a round is lawful but for the workers' turns
 abbrev pub is_framed : Script → ℕ → ℕ → Standing → Round → Bool
 is_framed s r T old round =
     round.tick == T && (is_legal old.state round.entries &&
     (is_some (reads_all (injecting s r) (tt {0}) (calls_of s.workers round.entries)) &&
-    list_all (λ e. nat_le e.caller.0 s.workers) round.entries))
+    (list_all (λ e. nat_le e.caller.0 s.workers) round.entries && is_served s old.state round.entries)))
 
 -- what stands after a round that is lawful
 abbrev pub if_framed : Bool → Option Standing → Option Standing
@@ -104,8 +104,8 @@ is_going s rest r T old (round ∷ more) =
     (λ new.
     if is_at_rest s r new then is_done more && rest
     else if r + 1 == s.rounds then is_done more && not rest
-    else is_going s rest (r + 1) (next_tick s T) new more)
-    (after_round s r T (dealt s old) round)
+    else is_going s rest (r + 1) (next_tick s r T new) new more)
+    (after_round s r T old round)
     false
 
 -- whether a run of a script is lawful

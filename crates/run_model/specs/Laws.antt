@@ -9,8 +9,8 @@ use Rattle.run_model.specs.IsLawful.{is_lawful}
 abbrev pub LawfulRunsAreDecided : Type 0
 LawfulRunsAreDecided = (s : Script) (run : Run) → IsTrue (is_lawful s run) ↔ LawfulRun s run
 
--- round k of a lawful run is k steps after the start, on the circle of ticks
+-- in version 1 round k of a lawful run is k steps after the start, on the circle of ticks
 abbrev pub LawfulRunsKeepTime : Type 0
 LawfulRunsKeepTime =
-    (s : Script) (run : Run) (k : ℕ) (round : Round) → s.start < 2 ^ 32 → LawfulRun s run →
+    (s : Script) (run : Run) (k : ℕ) (round : Round) → s.version ≡ 1 → s.start < 2 ^ 32 → LawfulRun s run →
     slice_get run.rounds k ≡ Some round → round.tick ≡ (s.start + k * s.step) % 2 ^ 32

@@ -2,7 +2,7 @@
 use Rattle.std.specs.Prelude.{◌==◌, ◌&&◌, Bool, true, false, List, [], ◌∷◌, Option, None, Some, option_and_then}
 use Rattle.sched_base.specs.declared.names.CallerId.{CallerId}
 use Rattle.task_machine.specs.declared.calls.Call.{Call}
-use Rattle.task_machine.specs.declared.calls.Call.TheVariants.{Wake, Kill, Post, Get, Take, DropRun, Retire}
+use Rattle.task_machine.specs.declared.calls.Call.TheVariants.{Wake, Kill, Post, Get, Draw, Take, DropRun, Retire}
 use Rattle.task_machine.specs.declared.calls.Reply.{Reply}
 use Rattle.task_machine.specs.declared.calls.Entry.{Entry}
 
@@ -33,20 +33,21 @@ same_call (Wake i f) (Wake j g) = i.0 == j.0 && f == g
 same_call (Kill i) (Kill j) = i.0 == j.0
 same_call (Post i b) (Post j c) = i.0 == j.0 && b == c
 same_call (Get g) (Get h) = g == h
+same_call (Draw i) (Draw j) = i.0 == j.0
 same_call (Take i) (Take j) = i.0 == j.0
 same_call (DropRun i) (DropRun j) = i.0 == j.0
 same_call (Retire i) (Retire j) = i.0 == j.0
 same_call c d = false
 
 -- the reader that a reply asks for, after an entry that is the expected one
-abbrev pub heard : {B : Type 0} → Bool → (Reply → Reader B) → Reply → Reader B
-heard true r reply b es = r reply b es
-heard false r reply b es = None
+abbrev pub if_asked : {B : Type 0} → Bool → (Reply → Reader B) → Reply → Reader B
+if_asked true r reply b es = r reply b es
+if_asked false r reply b es = None
 
 -- an entry of caller k with this call, and then the reader that its reply asks for
 abbrev pub asking : {B : Type 0} → CallerId → Call → (Reply → Reader B) → Reader B
 asking k call r b [] = None
-asking k call r b (e ∷ es) = heard (k.0 == e.caller.0 && same_call call e.call) r e.reply b es
+asking k call r b (e ∷ es) = if_asked (k.0 == e.caller.0 && same_call call e.call) r e.reply b es
 
 -- an entry of caller k with this call, and the change that its reply makes
 abbrev pub making : {B : Type 0} → CallerId → Call → (Reply → B → B) → Reader B

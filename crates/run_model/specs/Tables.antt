@@ -1,5 +1,5 @@
 -- What a run reads from the tables of its script (docs/MODEL.md, "Tables").
-use Rattle.std.specs.Prelude.{ℕ, ◌==◌, ℤ, pos, false, List, [], map, filter, length, slice_index_or}
+use Rattle.std.specs.Prelude.{ℕ, zero, suc, ◌==◌, ℤ, pos, false, List, [], map, filter, length, slice_index_or}
 use Rattle.std.specs.Int.{div_ceil}
 use Rattle.step_tables.specs.declared.tables.Action.{Action}
 use Rattle.step_tables.specs.declared.tables.Action.TheVariants.{Wake as Wakes, Kill as Kills}
@@ -26,6 +26,14 @@ def_of s i = slice_index_or s.tasks i blank_task
 -- row n of task i
 abbrev pub row_at : Script → ℕ → ℕ → Row
 row_at s i n = slice_index_or (def_of s i).rows n blank_row
+
+-- the row of a task by its takes: row 0 for the first, and the next row of the one before for each later one
+abbrev pub row_number : Script → ℕ → ℕ → ℕ
+row_number s i zero = 0
+row_number s i (suc t) = (row_at s i (row_number s i t)).next
+
+abbrev pub row_by : Script → ℕ → ℕ → Row
+row_by s i t = row_at s i (row_number s i t)
 
 -- the box to which a task is posted: its worker's, or the shared box, whose number is that of workers
 abbrev pub home_in : Script → Kind → ℕ

@@ -9,11 +9,11 @@ use Rattle.sched_base.proofs.Inserted.{all-weaker, filter-inserted_out}
 use Rattle.queue_model.specs.Ticks.{distance, is_expired, is_set}
 use Rattle.queue_model.specs.WaitList.{WaitItem, WaitList, placed}
 use Rattle.queue_model.specs.Sweep.{due}
-use Rattle.queue_model.specs.SweepStep.{first_fired, stepped}
+use Rattle.queue_model.specs.SweepStep.{is_due, DueFirst, first_fired, swept_once}
 use Rattle.queue_model.specs.Walk.{walked}
 use Rattle.queue_model.proofs.Walk.{walked-filter, walked_by_distance, all-walked}
 use Rattle.queue_model.proofs.WalkItems.{none_is}
-use Rattle.queue_model.proofs.SweepSteps.{is_due, DueFirst, none_due, step_fires, step_puts_back, step_forgets}
+use Rattle.queue_model.proofs.SweepSteps.{none_due, step_fires, step_puts_back, step_forgets}
 use Rattle.wait_queue.specs.Looks.{Settles, Passes, Fires}
 use Rattle.wait_queue.specs.Timers.{Timers, entry_of, wait_item, wait_list, IsTimer, Fits, insertions_of, Inserts}
 use Rattle.wait_queue.proofs.Meaning.{First, first_of, due_first, ticks_of, changes_root, changes_both, insertion_places, fits_after_insertion, fits_after_deletion, fits_after_change, free_after_deletion, free_task, entry_exists, insertions_after_insertion, insertions_after_deletion, unset, set_positive}
@@ -115,7 +115,7 @@ module _ (now entry : ℕ) (q : Timers) (s : KeyedRoots) (f : Fits q s) (keyed :
               ap (λ (l : WaitList). let m : WaitList = record { items = l.items; expiries = set q.expiries (entry / 2) 0 } in m) left_is
               ∙ ap (λ i. let m : WaitList = record { items = others; expiries = set q.expiries i 0 } in m) (sym task_is)
               ∙ sym p.1
-              ∙ ap (λ (l : WaitList). stepped now l) (sym list_is);
+              ∙ ap (λ (l : WaitList). swept_once now l) (sym list_is);
         }
 
     pub fits_fired : Fits (unset (entry / 2) q) s'
@@ -128,7 +128,7 @@ module _ (now entry : ℕ) (q : Timers) (s : KeyedRoots) (f : Fits q s) (keyed :
         let p = step_forgets now one others q.expiries is_due_one never in
         record {
           fired = ap (λ (l : WaitList). first_fired now l) left_is ∙ p.fired ∙ ap (λ (l : WaitList). first_fired now l) (sym list_is);
-          list = ap (λ (l : WaitList). stepped now l) left_is ∙ p.list ∙ ap (λ (l : WaitList). stepped now l) (sym list_is);
+          list = ap (λ (l : WaitList). swept_once now l) left_is ∙ p.list ∙ ap (λ (l : WaitList). swept_once now l) (sym list_is);
           fewer = shorter (wait_list now q s') (ap (λ (w : WaitList). due now w) left_is);
         }
 
@@ -157,7 +157,7 @@ module _ (now entry : ℕ) (q : Timers) (s : KeyedRoots) (f : Fits q s) (keyed :
           ∙ filter-inserted_out (is_due now) (λ (z : WaitItem). int_le (distance z.key now) (distance t now)) (record { key = t; task = one.task }) others later in
           record {
             fired = ap (λ (l : WaitList). first_fired now l) now_is ∙ p.fired ∙ ap (λ (l : WaitList). first_fired now l) (sym list_is);
-            list = ap (λ (l : WaitList). stepped now l) now_is ∙ p.list ∙ ap (λ (l : WaitList). stepped now l) (sym list_is);
+            list = ap (λ (l : WaitList). swept_once now l) now_is ∙ p.list ∙ ap (λ (l : WaitList). swept_once now l) (sym list_is);
             fewer = shorter (wait_list now q s'') due_new;
           }
 

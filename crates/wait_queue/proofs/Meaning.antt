@@ -16,7 +16,8 @@ use Rattle.queue_model.specs.WaitList.{WaitItem, WaitList, is_of, without, place
 use Rattle.queue_model.specs.Walk.{walked, HasTicks, IsByDistance}
 use Rattle.queue_model.proofs.Walk.{walked-inserted, walked-filter, all-walked, int_le-false}
 use Rattle.queue_model.proofs.WalkItems.{once_walked, find_walked, walked_in, in_walked, first_is}
-use Rattle.queue_model.proofs.SweepSteps.{is_due, ahead, DueFirst, int_le-fails}
+use Rattle.queue_model.specs.SweepStep.{is_due, not_due, DueFirst}
+use Rattle.queue_model.proofs.SweepSteps.{int_le-fails}
 use Rattle.queue_model.specs.Sweep.{due}
 use Rattle.wait_queue.specs.Timers.{Timers, IsReady, entry_of, wait_item, wait_list, IsTimer, Fits, key_of_task, insertions_of, Inserts, is_none_left}
 
@@ -183,7 +184,7 @@ due_first now (x ∷ xs) ordered all =
     later : (k : ℕ) → 0 < k → is_expired k now ≡ false → pos 0 <ℤ distance k now
     later k p d = int_le-fails (distance k now) (pos 0) (rw (ne_eqb k 0 (λ e. omega arith)) at d)
 
-    none_first : (ys : List KeyedItem) → pos 0 <ℤ distance x.key now → AllByRecursion (λ (y : KeyedItem). distance x.key now ≤ℤ distance y.key now) ys → AllByRecursion (λ (y : KeyedItem). 0 < y.key) ys → filter (is_due now) (map wait_item ys) ++ wait_item x ∷ ahead now (map wait_item ys) ≡ wait_item x ∷ map wait_item ys
+    none_first : (ys : List KeyedItem) → pos 0 <ℤ distance x.key now → AllByRecursion (λ (y : KeyedItem). distance x.key now ≤ℤ distance y.key now) ys → AllByRecursion (λ (y : KeyedItem). 0 < y.key) ys → filter (is_due now) (map wait_item ys) ++ wait_item x ∷ not_due now (map wait_item ys) ≡ wait_item x ∷ map wait_item ys
     none_first ys lt far set =
         let none : AllByRecursion (λ (y : KeyedItem). is_expired y.key now ≡ false) ys = all-weaker (λ (y : KeyedItem). (distance x.key now ≤ℤ distance y.key now) × (0 < y.key)) (λ (y : KeyedItem). is_expired y.key now ≡ false) ys (λ y h.
         let l : pos 0 <ℤ distance y.key now = let a : distance x.key now ≤ℤ distance y.key now = h.0 in omega (arith, ints) in

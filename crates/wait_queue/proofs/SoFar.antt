@@ -2,7 +2,7 @@
 use Rattle.std.proofs.Common.{◌≡◌, ℕ, ◌+◌, ◌≤◌, ◌<◌, length, refl, sym, ap, ◌∙◌, arith}
 use Rattle.sched_base.specs.KeyedList.{KeyedRoots, AreKeyed, ChangesRoot}
 use Rattle.queue_model.specs.Sweep.{due}
-use Rattle.queue_model.specs.SweepStep.{first_fired, stepped}
+use Rattle.queue_model.specs.SweepStep.{first_fired, swept_once}
 use Rattle.wait_queue.specs.Timers.{Timers, wait_list, Fits, IsSameQueue, Inserts, insertions_of}
 use Rattle.wait_queue.proofs.Meaning.{changes_none, due_bound}
 
@@ -10,7 +10,7 @@ use Rattle.wait_queue.proofs.Meaning.{changes_none, due_bound}
 pub record SoFar (now : ℕ) (q0 : Timers) (s0 : KeyedRoots) (q : Timers) (s : KeyedRoots) : Type 0 where
   pub fits : Fits q s
   pub fired : first_fired now (wait_list now q s) ≡ first_fired now (wait_list now q0 s0)
-  pub list : stepped now (wait_list now q s) ≡ stepped now (wait_list now q0 s0)
+  pub list : swept_once now (wait_list now q s) ≡ swept_once now (wait_list now q0 s0)
   pub others : ChangesRoot q0.root s0 s
   pub same : IsSameQueue q0 q
   pub grows : insertions_of q0 s0 ≤ insertions_of q s

@@ -3,13 +3,13 @@ use Rattle.std.specs.Prelude.{◌≡◌, ℕ, ◌+◌, ◌*◌, ◌^◌, ◌<◌
 use Rattle.sched_base.specs.KeyedList.{KeyedRoots, AreKeyed, root_at, holds, ChangesRoot}
 use Rattle.queue_model.specs.WaitList.{WaitList}
 use Rattle.queue_model.specs.Sweep.{fired, swept}
-use Rattle.queue_model.specs.SweepStep.{Steps}
+use Rattle.queue_model.specs.SweepStep.{SweepsBy}
 use Rattle.queue_model.specs.Window.{AreNear}
 use Rattle.wait_queue.specs.Timers.{Timers, entry_of, wait_list, Fits}
 
 -- steps of a sweep, up to one that fires nothing, fire what the sweep fires and leave what it leaves
 abbrev pub StepsComeToTheSweep : Type 0
-StepsComeToTheSweep = (now : ℕ) (q : Timers) (lists : KeyedRoots) (ids : List ℕ) (new : WaitList) → now < 2 ^ 32 → AreKeyed lists → Fits q lists → Steps now (wait_list now q lists) ids new → (ids ≡ fired now (wait_list now q lists)) × (new ≡ swept now (wait_list now q lists))
+StepsComeToTheSweep = (now : ℕ) (q : Timers) (lists : KeyedRoots) (ids : List ℕ) (new : WaitList) → now < 2 ^ 32 → AreKeyed lists → Fits q lists → SweepsBy now (wait_list now q lists) ids new → (ids ≡ fired now (wait_list now q lists)) × (new ≡ swept now (wait_list now q lists))
 
 -- while all keys are near, the wait list is the same from both ticks
 abbrev pub WaitListsStay : Type 0

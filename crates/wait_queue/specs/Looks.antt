@@ -2,7 +2,7 @@
 use Rattle.std.specs.Prelude.{◌≡◌, ℕ, ◌<◌, [], Some, length}
 use Rattle.queue_model.specs.WaitList.{WaitList}
 use Rattle.queue_model.specs.Sweep.{due}
-use Rattle.queue_model.specs.SweepStep.{first_fired, stepped}
+use Rattle.queue_model.specs.SweepStep.{first_fired, swept_once}
 use Rattle.wait_queue.specs.declared.wait_queue.Look.{Look}
 use Rattle.wait_queue.specs.declared.wait_queue.Look.TheVariants.{Settled, Passed, Fired}
 
@@ -14,14 +14,14 @@ pub record Settles (now : ℕ) (old new : WaitList) : Type 0 where
 -- one item less is due, and the step goes on from here
 pub record Passes (now : ℕ) (old new : WaitList) : Type 0 where
   pub fired : first_fired now new ≡ first_fired now old
-  pub list : stepped now new ≡ stepped now old
+  pub list : swept_once now new ≡ swept_once now old
   pub fewer : length (due now new) < length (due now old)
 
 -- the step ends with this task
 pub record Fires (task now : ℕ) (old new : WaitList) : Type 0 where
   pub some : 0 < length (due now old)
   pub fired : first_fired now old ≡ Some task
-  pub list : new ≡ stepped now old
+  pub list : new ≡ swept_once now old
 
 -- what a look says of the list before it and after it
 abbrev pub Saw : Look → ℕ → WaitList → WaitList → Type 0

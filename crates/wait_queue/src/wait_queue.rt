@@ -5,7 +5,7 @@ ghost use Rattle.std.specs.Option.{option_map};
 ghost use Rattle.sched_base.specs.KeyedList.{KeyedRoots, root_at, first_entry, ChangesRoot};
 ghost use Rattle.queue_model.specs.WaitList.{WaitList, expiry_of, with_expiry, armed, unlinked};
 ghost use Rattle.queue_model.specs.Sweep.{due};
-ghost use Rattle.queue_model.specs.SweepStep.{first_fired, stepped};
+ghost use Rattle.queue_model.specs.SweepStep.{first_fired, swept_once};
 ghost use Rattle.queue_model.specs.Walk.{walked};
 ghost use Rattle.wait_queue.specs.Looks.{Saw, IfSettled};
 ghost use Rattle.wait_queue.specs.Timers.{wait_list, Fits, IsReady, IsSameQueue, Inserts, insertions_of, first_key, key_of_task, is_none_left};
@@ -174,7 +174,7 @@ impl WaitQueue {
         requires fits { Fits self.old (K.seen lists.old) }
         requires room { insertions_of self.old (K.seen lists.old) + length self.old.expiries < 2 ^ 63 }
         ensures fired { option_map (λ id. id.0) result ≡ first_fired now (wait_list now self.old (K.seen lists.old)) }
-        ensures list { wait_list now self.new (K.seen lists.new) ≡ stepped now (wait_list now self.old (K.seen lists.old)) }
+        ensures list { wait_list now self.new (K.seen lists.new) ≡ swept_once now (wait_list now self.old (K.seen lists.old)) }
         ensures settled { IfNone result (due now (wait_list now self.new (K.seen lists.new)) ≡ []) }
         ensures fits { Fits self.new (K.seen lists.new) }
         ensures others { ChangesRoot self.old.root (K.seen lists.old) (K.seen lists.new) }

@@ -1,0 +1,12 @@
+pub mod Asked
+pub mod Leads
+pub mod Turns
+pub mod Told
+pub mod Books
+pub mod Stages
+pub mod Quotas
+pub mod Budget
+pub mod Measure
+pub mod Ranges
+pub mod Fit
+pub mod Hears
