@@ -1,5 +1,5 @@
 -- What a call does to a task, seen from one caller: calls of others change nothing of its hands, runs and draws.
-use Rattle.std.proofs.Common.{◌≡◌, ◌≢◌, ℕ, Bool, true, false, ◌||◌, ◌==◌, if◌then◌else◌, ◌⊎◌, inl, inr, refl, sym, ap, ◌∙◌, arith, ne_eqb, eqb-true, subst}
+use Rattle.std.proofs.Common.{◌≡◌, ◌≢◌, ℕ, Bool, true, false, ◌||◌, ◌==◌, if◌then◌else◌, ◌⊎◌, inl, inr, refl, sym, ap, ◌∙◌, ne_eqb, eqb-true}
 use Rattle.sched_base.specs.declared.names.CallerId.{CallerId}
 use Rattle.task_machine.specs.declared.task.Place.{Place}
 use Rattle.task_machine.specs.declared.task.Place.TheVariants as places
@@ -7,7 +7,7 @@ use Rattle.task_machine.specs.declared.task.TaskState.{TaskState}
 use Rattle.task_machine.specs.declared.calls.Call.{Call}
 use Rattle.task_machine.specs.declared.calls.Call.TheVariants as calls
 use Rattle.task_machine.specs.declared.calls.Entry.{Entry}
-use Rattle.task_machine.specs.Task.{is_busy, put, in_hands, in_draw, in_run, is_boxed, raised, woken, flagged, got}
+use Rattle.task_machine.specs.Task.{is_busy, put, in_hands, in_draw, in_run, is_boxed, raised, woken, flagged}
 use Rattle.task_machine.specs.Step.{State, task_at, is_about, needs, changed, bit, Allowed}
 use Rattle.task_machine.specs.History.{stepped}
 use Rattle.task_machine.proofs.After.{task_at-after, subject-lt}

@@ -1,16 +1,15 @@
 -- What a get does: just the members of its group that it answers come into the caller's hands.
-use Rattle.std.proofs.Common.{◌≡◌, ◌≢◌, ℕ, zero, suc, ◌+◌, ◌*◌, ◌/◌, ◌%◌, ◌<◌, ◌≤◌, Bool, true, false, cond, ◌==◌, if◌then◌else◌, ◌⊎◌, inl, inr, List, [], ◌∷◌, map, refl, sym, ap, ◌∙◌, arith, ne_eqb, eqb-true, eq-eqb}
+use Rattle.std.proofs.Common.{◌≡◌, ◌≢◌, ℕ, zero, suc, ◌+◌, ◌*◌, ◌/◌, ◌%◌, ◌<◌, ◌≤◌, Bool, true, false, cond, ◌==◌, if◌then◌else◌, ◌⊎◌, inl, inr, List, ◌∷◌, map, refl, sym, ap, ◌∙◌, arith, ne_eqb, eqb-true, eq-eqb}
 use Rattle.std.specs.Int.{bit_at}
 use Rattle.std.specs.List.{range_with_len, filter}
 use Rattle.std.proofs.lemmas.Bool.{cases_lt}
 use Rattle.sched_base.specs.declared.names.CallerId.{CallerId}
-use Rattle.task_machine.specs.declared.task.Place.{Place}
 use Rattle.task_machine.specs.declared.task.Place.TheVariants as places
 use Rattle.task_machine.specs.declared.task.TaskState.{TaskState}
 use Rattle.task_machine.specs.declared.calls.Call.TheVariants as calls
 use Rattle.task_machine.specs.declared.calls.Reply.{Reply}
 use Rattle.task_machine.specs.declared.calls.Reply.TheVariants.{Group}
-use Rattle.task_machine.specs.Task.{put, in_hands, in_draw, in_run, is_boxed, got}
+use Rattle.task_machine.specs.Task.{put, in_hands, in_draw, in_run, is_boxed}
 use Rattle.task_machine.specs.Step.{State, task_at, bit, IsBox, Allowed}
 use Rattle.task_machine.specs.History.{stepped}
 use Rattle.run_model.specs.Replies.{members}
@@ -93,7 +92,7 @@ got_drawn k t true e = sym (apart-boxed k k.0 t.place e).1
 got_drawn k t false e = refl
 
 -- what a get answers of a task
-members_are : (s : State) (b g i n : ℕ) (r : Reply) → r ≡ Group n → IsBox s b g n → i / 64 ≡ g → times i (members g r) ≡ bit (is_boxed b (task_at s i).place)
+pub members_are : (s : State) (b g i n : ℕ) (r : Reply) → r ≡ Group n → IsBox s b g n → i / 64 ≡ g → times i (members g r) ≡ bit (is_boxed b (task_at s i).place)
 members_are s b g i n r e box h = ap (λ q. times i (members g q)) e ∙ answered s b g n i box h
 
 pub members_apart : (g i n : ℕ) (r : Reply) → r ≡ Group n → i / 64 ≢ g → times i (members g r) ≡ 0

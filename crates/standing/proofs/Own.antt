@@ -1,5 +1,5 @@
 -- What a caller's own call does to its hands, runs and draws.
-use Rattle.std.proofs.Common.{◌≡◌, ◌≢◌, ℕ, ◌+◌, ◌≤◌, Bool, true, false, not, ◌||◌, ◌==◌, if◌then◌else◌, ◌⊎◌, inl, inr, refl, sym, ap, ◌∙◌, arith, ne_eqb, eqb-true, eq-eqb, subst}
+use Rattle.std.proofs.Common.{◌≡◌, ℕ, ◌+◌, ◌≤◌, Bool, true, false, ◌||◌, ◌==◌, if◌then◌else◌, refl, sym, ap, ◌∙◌, arith, eqb-true, eq-eqb}
 use Rattle.sched_base.specs.declared.names.CallerId.{CallerId}
 use Rattle.sched_base.specs.declared.names.TaskId.{TaskId}
 use Rattle.task_machine.specs.declared.task.Place.{Place}
@@ -9,8 +9,8 @@ use Rattle.task_machine.specs.declared.calls.Call.{Call}
 use Rattle.task_machine.specs.declared.calls.Call.TheVariants as calls
 use Rattle.task_machine.specs.declared.calls.Reply.{Reply}
 use Rattle.task_machine.specs.declared.calls.Reply.TheVariants.{Task}
-use Rattle.task_machine.specs.Task.{is_busy, in_hands, in_draw, in_run, is_boxed, seen_at, seen_of, raised}
-use Rattle.task_machine.specs.Step.{State, task_at, is_about, needs, changed, subject, bit, IsReply, Allowed}
+use Rattle.task_machine.specs.Task.{is_busy, in_hands, in_draw, in_run, seen_at, seen_of, raised}
+use Rattle.task_machine.specs.Step.{State, task_at, subject, bit, Allowed}
 use Rattle.task_machine.specs.History.{stepped}
 use Rattle.run_model.specs.Replies.{is_rest, is_killed, has_reasons}
 use Rattle.turn_steps.specs.Has.{said}
