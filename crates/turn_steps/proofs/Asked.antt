@@ -22,7 +22,7 @@ take-draw : (o : Option Next) (c : Call) → take_call o ≡ Some c → is_draw 
 take-draw None c e = cc
 take-draw (Some x) c e = ap is_draw (sym (some_inj _ _ e))
 
-asked-draw : (s : Script) (l : Left) (b : Book) (c : Call) → asked_in s l b ≡ Some c → is_draw c ≡ false
+pub asked-draw : (s : Script) (l : Left) (b : Book) (c : Call) → asked_in s l b ≡ Some c → is_draw c ≡ false
 asked-draw s (gets g gs) b c e = ap is_draw (sym (some_inj _ _ e))
 asked-draw s (wakes i is) b c e = ap is_draw (sym (some_inj _ _ e))
 asked-draw s (runs q) b c e = take-draw (next_in q b) c e

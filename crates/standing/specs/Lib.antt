@@ -1,0 +1,9 @@
+pub mod Places
+pub mod Keeps
+pub mod Going
+pub mod Between
+pub mod Passes
+pub mod Homes
+pub mod Clock
+pub mod Firm
+pub mod Laws

@@ -1,0 +1,34 @@
+//! What holds of every run, as functions that do nothing and whose contracts are the laws.
+
+ghost use Rattle.standing.specs.Laws.{CallersHear, NextCallsAreAllowed, RoundsAreCalls, RoundsKeep, RunsCanGoOn};
+
+/// What stands together holds at the opening, and each call within a round and each lawful round
+/// keeps it.
+#[tactic(auto, using(crate::proofs::Lawful::rounds_keep_all))]
+pub fn rounds_keep()
+    ensures { RoundsKeep }
+{}
+
+/// Each next call of each caller is allowed, and so is each draw of a task that is in the shared box.
+#[tactic(auto, using(crate::proofs::Lawful::next_calls_all))]
+pub fn next_calls_are_allowed()
+    ensures { NextCallsAreAllowed }
+{}
+
+/// Whole rounds and any calls of the next one are the beginning of a lawful run to its end.
+#[tactic(auto, using(crate::proofs::Lawful::runs_go_on))]
+pub fn runs_can_go_on()
+    ensures { RunsCanGoOn }
+{}
+
+/// The beginning of the entries of a lawful round are such calls.
+pub fn rounds_are_calls()
+    ensures { RoundsAreCalls }
+{}
+
+/// A caller that follows its part has what its part says, whatever the others do, and the machine
+/// gives it a reply that its part can hear.
+#[tactic(auto, using(crate::proofs::Lawful::callers_hear_all))]
+pub fn callers_hear()
+    ensures { CallersHear }
+{}
