@@ -14,8 +14,8 @@ use Rattle.run_model.specs.Lawful.{RoundOf, Goes, LawfulRun}
 use Rattle.run_model.specs.Standing.{Standing, opening, blank_book, is_draw, is_at_rest, next_tick, turn_ended}
 use Rattle.transcript.specs.declared.lines.Line.{Line}
 use Rattle.transcript.specs.declared.lines.Line.TheVariants as line
-use Rattle.transcript.specs.RunLines.{lines_from, lines_of_run}
-use Rattle.transcript.specs.Front.{Front}
+use Rattle.run_texts.specs.RunLines.{lines_from, lines_of_run}
+use Rattle.run_texts.specs.Front.{Front}
 use Rattle.turn_steps.proofs.Fit.{IsFit-sound}
 use Rattle.standing.specs.Keeps.{Callers, Keeps}
 use Rattle.standing.specs.Going.{IsNext, called, Going, gone_on}

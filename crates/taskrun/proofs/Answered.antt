@@ -6,7 +6,7 @@ use Rattle.step_tables.specs.declared.tables.Script.{Script}
 use Rattle.step_tables.specs.Judging.{script_of, byte_limit}
 use Rattle.step_tables.specs.Sound.{is_first_form, is_sound}
 use Rattle.step_tables.proofs.Length.{read_length, read_cut}
-use Rattle.transcript.specs.Spelling.{text_of}
+use Rattle.run_texts.specs.RunText.{text_of}
 use Rattle.taskrun.specs.declared.status.Status.{Status}
 use Rattle.taskrun.specs.declared.status.Status.TheVariants.{Done, ScriptRefused, Usage, ReadFault, WriteFault, NoMemory, NotLawful, TextRefused}
 use Rattle.taskrun.specs.Answers.{OnScript, Wrote, WroteFront, Answers, Expected, IsRunning}

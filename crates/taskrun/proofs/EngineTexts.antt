@@ -18,8 +18,9 @@ use Rattle.run_model.specs.Replies.{is_killed, has_reasons}
 use Rattle.run_model.specs.Standing.{next_tick}
 use Rattle.run_model.specs.Tables.{call_of}
 use Rattle.transcript.specs.HasText.{HasTextSeen, HasTextCall, HasTextEntry}
-use Rattle.transcript.specs.Spelling.{text_of, head_text, round_text, rounds_text, end_text}
-use Rattle.transcript.proofs.Pieces.{text_of_pieces}
+use Rattle.transcript.specs.Spelling.{head_text, round_text, end_text}
+use Rattle.run_texts.specs.RunText.{text_of, rounds_text}
+use Rattle.run_texts.proofs.Pieces.{text_of_pieces}
 use Rattle.taskrun.specs.Play.{worker, task, World, made, replied, collected, acted_all, ended, ran, turn_with, turned, actions_of, is_quiet, cleared, rounds_from, rests_from, opened, play}
 use Rattle.taskrun.specs.Stands.{at, Stands, IsAction, Settled}
 use Rattle.taskrun.specs.Engine.{Waiting, Ready}

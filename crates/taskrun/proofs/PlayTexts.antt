@@ -11,11 +11,12 @@ use Rattle.run_model.specs.Run.{Round}
 use Rattle.run_model.specs.Book.{Book}
 use Rattle.run_model.specs.Standing.{opening, next_tick}
 use Rattle.transcript.specs.declared.lines.Line.TheVariants as lines
-use Rattle.transcript.specs.RunLines.{lines_from, lines_of_run}
-use Rattle.transcript.specs.HasText.{HasText, HasTextLine}
-use Rattle.transcript.specs.Spelling.{text_of}
+use Rattle.run_texts.specs.RunLines.{lines_from, lines_of_run}
+use Rattle.transcript.specs.HasText.{HasTextLine}
+use Rattle.run_texts.specs.RunText.{HasText}
+use Rattle.run_texts.specs.RunText.{text_of}
 use Rattle.transcript.specs.Judging.{lines_of}
-use Rattle.transcript.proofs.TextAgain.{text_again}
+use Rattle.run_texts.proofs.RunsAgain.{text_again}
 use Rattle.taskrun.specs.Play.{World, turned, is_quiet, cleared, rounds_from, rests_from, opened, play}
 use Rattle.taskrun.specs.Stands.{one, IsAction, Settled}
 use Rattle.taskrun.proofs.Went.{IsMine, SmallCall}

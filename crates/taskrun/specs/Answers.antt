@@ -5,8 +5,8 @@ use Rattle.step_tables.specs.declared.faults.ScriptFault.{ScriptFault}
 use Rattle.step_tables.specs.declared.tables.Script.{Script}
 use Rattle.step_tables.specs.Sound.{is_first_form}
 use Rattle.run_model.specs.Run.{Run}
-use Rattle.transcript.specs.RunLines.{lines_of_run}
-use Rattle.transcript.specs.Spelling.{text_of}
+use Rattle.run_texts.specs.RunLines.{lines_of_run}
+use Rattle.run_texts.specs.RunText.{text_of}
 use Rattle.transcript.specs.Judging.{lines_of}
 use Rattle.taskrun.specs.declared.status.Status.{Status}
 use Rattle.taskrun.specs.declared.status.Status.TheVariants.{Done, ScriptRefused, Usage, ReadFault, WriteFault, NoMemory, NotLawful, TextRefused}

@@ -3,7 +3,8 @@
 ghost use Rattle.std.specs.Prelude.{◌≡◌, ℕ, ◌^◌, ◌≤◌, [], ◌++◌, length, true, if◌then◌else◌, IsTrue, IfOk, IfErr, OnOk, OnErr};
 ghost use Rattle.sched_base.specs.Streams.{Appends, AppendsFront, Rose};
 ghost use Rattle.step_tables.specs.Sound.{is_first_form};
-ghost use Rattle.transcript.specs.Spelling.{text_of, round_text, end_text};
+ghost use Rattle.transcript.specs.Spelling.{round_text, end_text};
+ghost use Rattle.run_texts.specs.RunText.{text_of};
 ghost use Rattle.taskrun.specs.Play.{turned, is_quiet, cleared, play};
 ghost use Rattle.taskrun.specs.Engine.{world_of, Ready};
 ghost use Rattle.taskrun.specs.declared.rounds.PlayError.TheVariants.{Fault, Memory};

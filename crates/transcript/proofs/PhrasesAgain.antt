@@ -1,7 +1,8 @@
 -- A line of a run is read as it is written.
-use Rattle.std.proofs.Common.{◌≡◌, ℕ, ◌^◌, ◌<◌, Bool, true, false, List, [], ◌∷◌, ◌++◌, Option, Some, codes, decimal, refl, ap, ◌∙◌, sym, arith}
+use Rattle.std.proofs.Common.{◌≡◌, ℕ, ◌^◌, ◌<◌, Bool, true, false, ◌==◌, List, [], ◌∷◌, ◌++◌, Option, Some, decimal, refl, ap, ◌∙◌, sym, arith, append-nil}
 use Rattle.std.specs.List.{list_all, join_with_byte}
-use Rattle.task_machine.specs.declared.task.Stand.{Stand}
+use Rattle.std.proofs.lemmas.List.Folds.{list_all-append}
+use Rattle.std.proofs.lemmas.Bool.{and_from}
 use Rattle.task_machine.specs.declared.task.Stand.TheVariants as stands
 use Rattle.task_machine.specs.declared.task.Seen.{Seen}
 use Rattle.task_machine.specs.declared.task.Seen.TheVariants as seens
@@ -9,125 +10,147 @@ use Rattle.task_machine.specs.declared.calls.Call.{Call}
 use Rattle.task_machine.specs.declared.calls.Call.TheVariants as calls
 use Rattle.task_machine.specs.declared.calls.Reply.{Reply}
 use Rattle.task_machine.specs.declared.calls.Reply.TheVariants as replies
+use Rattle.text_lines.specs.Steps.{◌>>=◌, ◌or_else◌}
+use Rattle.text_lines.specs.Pieces.{Word}
+use Rattle.text_lines.specs.Names.{plain}
+use Rattle.text_lines.specs.Numbers.{number}
+use Rattle.text_lines.specs.Slots.{Value, of_small, of_number, of_index, number_at}
+use Rattle.text_lines.specs.Shapes.{Fits, words, row_words}
+use Rattle.text_lines.proofs.NumbersAgain.{number_again}
+use Rattle.text_lines.proofs.FrontAgain.{front_again}
+use Rattle.text_lines.proofs.Parts.{part_again, part_alone}
+use Rattle.text_lines.proofs.Plain.{decimal_plain, row_plain, slots_plain, pieces_joined}
 use Rattle.transcript.specs.declared.lines.Line.{Line}
 use Rattle.transcript.specs.declared.lines.Line.TheVariants as line
+use Rattle.transcript.specs.declared.shape.Answer.TheVariants as answers
+use Rattle.transcript.specs.declared.shape.SeenName.TheVariants as views
+use Rattle.transcript.specs.declared.shape.LineName.{LineName}
+use Rattle.transcript.specs.declared.shape.LineName.TheVariants as kinds
 use Rattle.transcript.specs.declared.shape.Said.{Said}
 use Rattle.transcript.specs.declared.shape.Said.TheVariants.{Holds}
-use Rattle.transcript.specs.HasText.{HasTextSeen, HasTextCall, HasTextLine, FitsReply, FitsCall}
-use Rattle.transcript.specs.Spelling.{stand_word, flag_word, end_word, seen_words, reply_words, call_words, line_words}
-use Rattle.transcript.specs.Grammar.{stand, flag, at_rest, number, small, takes_number, seen, said_by, said}
-use Rattle.transcript.proofs.NumbersAgain.{number_again}
-use Rattle.transcript.proofs.HexAgain.{hex_again}
-use Rattle.transcript.proofs.ReasonsAgain.{reasons_again, pending_again}
-use Rattle.transcript.proofs.Plain.{plain, decimal_plain, hex_plain, reasons_plain, pending_plain, stand_plain, flag_plain, end_plain, pieces_joined}
+use Rattle.transcript.specs.Tables.{call_row, call_names, answer_of, mask_slots, seen_row, seen_names, line_row, line_names}
+use Rattle.transcript.specs.HasText.{HasTextSeen, HasTextCall, HasTextLine, TellsTask, FitsReply, FitsCall}
+use Rattle.transcript.specs.Spelling.{name_of, call_values, call_words, seen_name, seen_values, seen_words, fate_index, reply_words, caller_word, end_index, line_words}
+use Rattle.transcript.specs.Grammar.{call_of, seen_of, line_of, at_end, seen_in, reply_in, entry_of, entry_in, plain_in, said_by, said}
+use Rattle.transcript.proofs.Rows.{call_found, call_sound, call_plain, call_slots_plain, seen_found, seen_sound, seen_plain, seen_slots_plain, line_found, line_sound, line_plain, line_slots_plain}
 
-pub stand_again : (s : Stand) → stand (stand_word s) ≡ Some s
-stand_again stands.Rest = refl
-stand_again stands.Queued = refl
-stand_again stands.Runs = refl
+-- a call's values are those of its row, and make the call
+call_same : (c : Call) → call_of (name_of c) (call_values c) ≡ c
+call_same (calls.Wake i f) = refl
+call_same c = refl
 
-pub flag_again : (k : Bool) → flag (flag_word k) ≡ Some k
-flag_again true = refl
-flag_again false = refl
+call_fits : (c : Call) (r : Reply) → FitsCall c → HasTextCall c r → Fits (call_row (name_of c)).slots (call_values c)
+call_fits (calls.Wake i f) r fits has = (fits.0, ((has.0, fits.1), tt))
+call_fits (calls.Post i b) r fits has = (fits.0, (fits.1, tt))
+call_fits c r fits has = (fits, tt)
 
-pub rest_again : (r : Bool) → at_rest (end_word r) ≡ Some r
+killed_again : (k : Bool) → (fate_index k == 1) ≡ k
+killed_again true = refl
+killed_again false = refl
+
+fate_fits : (k : Bool) → fate_index k < 2
+fate_fits true = omega arith
+fate_fits false = omega arith
+
+seen_same : (s : Seen) → seen_of (seen_name s) (seen_values s) ≡ s
+seen_same seens.Gone = refl
+seen_same (seens.Live stands.Rest p k n) = ap (λ b. seens.Live stands.Rest p b n) (killed_again k)
+seen_same (seens.Live stands.Queued p k n) = ap (λ b. seens.Live stands.Queued p b n) (killed_again k)
+seen_same (seens.Live stands.Runs p k n) = ap (λ b. seens.Live stands.Runs p b n) (killed_again k)
+
+seen_fits : (s : Seen) → FitsReply (replies.Task s) → HasTextSeen s → Fits (seen_row (seen_name s)).slots (seen_values s)
+seen_fits seens.Gone fits has = tt
+seen_fits (seens.Live stands.Rest p k n) fits has = (fits, (fate_fits k, (has, tt)))
+seen_fits (seens.Live stands.Queued p k n) fits has = (fits, (fate_fits k, (has, tt)))
+seen_fits (seens.Live stands.Runs p k n) fits has = (fits, (fate_fits k, (has, tt)))
+
+seen_again : (s : Seen) → FitsReply (replies.Task s) → HasTextSeen s → seen_in (seen_words s) ≡ Some s
+seen_again s fits has =
+    ap (λ o. o >>= (λ p. at_end p.rest (seen_of p.kind p.values))) (part_alone seen_row seen_names (seen_name s) (seen_values s) (seen_found _) (seen_sound _) (seen_fits s fits has)) ∙ ap Some (seen_same s)
+
+task_again : (r : Reply) → TellsTask r → FitsReply r → reply_in answers.Seen (reply_words r) ≡ Some r
+task_again (replies.Task s) has fits = ap (λ o. o >>= (λ s. Some (replies.Task s))) (seen_again s fits has)
+task_again (replies.Group m) has fits = absurd has
+task_again replies.Done has fits = absurd has
+
+group_again : (m : ℕ) → m < 2 ^ 64 → reply_in answers.Group (words mask_slots (of_number m ∷ [])) ≡ Some (replies.Group m)
+group_again m fits =
+    let read = ap (λ o. o >>= (λ r. at_end r.1 (replies.Group (number_at r.0 0)))) (front_again mask_slots (of_number m ∷ []) [] refl (fits, tt)) in
+    ap (reply_in answers.Group) (sym (append-nil (words mask_slots (of_number m ∷ [])))) ∙ read
+
+reply_again : (c : Call) (r : Reply) → HasTextCall c r → FitsReply r → reply_in (answer_of (name_of c)) (reply_words r) ≡ Some r
+reply_again (calls.Wake i f) r has fits = task_again r has.1 fits
+reply_again (calls.Kill i) r has fits = task_again r has fits
+reply_again (calls.Take i) r has fits = task_again r has fits
+reply_again (calls.DropRun i) r has fits = task_again r has fits
+reply_again (calls.Retire i) r has fits = task_again r has fits
+reply_again (calls.Get g) (replies.Group m) has fits = group_again m fits
+reply_again (calls.Post i b) replies.Done has fits = refl
+reply_again (calls.Draw i) replies.Done has fits = refl
+reply_again c r has fits = absurd (assumption has)
+
+-- an entry, by its caller's number, its call and its answer
+abbrev entry_read : ℕ → Call → Reply → Said
+entry_read k c r = Holds (line.Entry (record { caller = record { 0 = k }; call = c; reply = r }))
+
+entry_again : (k : ℕ) (c : Call) (r : Reply) → k < 2 ^ 32 → FitsCall c → FitsReply r → HasTextCall c r → entry_in (caller_word k ∷ (call_words c ++ reply_words r)) ≡ Some (entry_read k c r)
+entry_again k c r below fits rfits has =
+    ap (λ o. o >>= (λ k. entry_of k (call_words c ++ reply_words r))) (number_again 4294967295 k (omega arith) (omega arith))
+    ∙ ap (λ o. o >>= (λ p. reply_in (answer_of p.kind) p.rest >>= (λ r. Some (entry_read k (call_of p.kind p.values) r)))) (part_again call_row call_names (name_of c) (call_values c) (reply_words r) (call_found _) (call_sound _) (call_fits c r fits has))
+    ∙ ap (λ o. o >>= (λ r. Some (entry_read k (call_of (name_of c) (call_values c)) r))) (reply_again c r has rfits)
+    ∙ ap (λ c. Some (entry_read k c r)) (call_same c)
+
+plain_again : (k : LineName) (vs : List Value) → Fits (line_row k).slots vs → plain_in (row_words (line_row k) vs) ≡ Some (line_of k vs)
+plain_again k vs fits =
+    ap (λ o. o >>= (λ p. at_end p.rest (line_of p.kind p.values))) (part_alone line_row line_names k vs (line_found k) (line_sound k) fits)
+
+rest_again : (r : Bool) → (end_index r == 0) ≡ r
 rest_again true = refl
 rest_again false = refl
 
-pub small_again : (n : ℕ) → n < 2 ^ 32 → small (decimal n) ≡ Some n
-small_again n below = number_again 4294967295 n (omega arith) (omega arith)
-
-takes_again : (n : ℕ) → n < 2 ^ 48 → takes_number (decimal n) ≡ Some n
-takes_again n below = number_again 281474976710655 n (omega arith) (omega arith)
-
-seen_again : (s : Seen) → FitsReply (replies.Task s) → HasTextSeen s → seen (seen_words s) ≡ Some s
-seen_again seens.Gone fits has = refl
-seen_again (seens.Live s p k n) fits has = rw (stand_again s, pending_again p fits, flag_again k, takes_again n has) refl
-
--- an entry, by its caller's number, its call and its answer
-entry_read : ℕ → Call → Reply → Option Said
-entry_read k c r = Some (Holds (line.Entry (record { caller = record { 0 = k }; call = c; reply = r })))
-
-call_again : (c : Call) (r : Reply) → FitsCall c → FitsReply r → HasTextCall c r → (k : ℕ) → k < 2 ^ 32 → said_by ((99 ∷ decimal k) ∷ (call_words c ++ reply_words r)) ≡ entry_read k c r
-unfolding entry_read
-call_again (calls.Wake i f) (replies.Task seens.Gone) fits rfits has k below = rw (small_again k below, small_again i.0 fits.0, reasons_again f has.0 fits.1) refl
-call_again (calls.Wake i f) (replies.Task (seens.Live s p t n)) fits rfits has k below = rw (small_again k below, small_again i.0 fits.0, reasons_again f has.0 fits.1, seen_again (seens.Live s p t n) rfits has.1) refl
-call_again (calls.Wake i f) (replies.Group m) fits rfits has k below = absurd has.1
-call_again (calls.Wake i f) replies.Done fits rfits has k below = absurd has.1
-call_again (calls.Kill i) (replies.Task seens.Gone) fits rfits has k below = rw (small_again k below, small_again i.0 fits) refl
-call_again (calls.Kill i) (replies.Task (seens.Live s p t n)) fits rfits has k below = rw (small_again k below, small_again i.0 fits, seen_again (seens.Live s p t n) rfits has) refl
-call_again (calls.Kill i) (replies.Group m) fits rfits has k below = absurd has
-call_again (calls.Kill i) replies.Done fits rfits has k below = absurd has
-call_again (calls.Take i) (replies.Task seens.Gone) fits rfits has k below = rw (small_again k below, small_again i.0 fits) refl
-call_again (calls.Take i) (replies.Task (seens.Live s p t n)) fits rfits has k below = rw (small_again k below, small_again i.0 fits, seen_again (seens.Live s p t n) rfits has) refl
-call_again (calls.Take i) (replies.Group m) fits rfits has k below = absurd has
-call_again (calls.Take i) replies.Done fits rfits has k below = absurd has
-call_again (calls.DropRun i) (replies.Task seens.Gone) fits rfits has k below = rw (small_again k below, small_again i.0 fits) refl
-call_again (calls.DropRun i) (replies.Task (seens.Live s p t n)) fits rfits has k below = rw (small_again k below, small_again i.0 fits, seen_again (seens.Live s p t n) rfits has) refl
-call_again (calls.DropRun i) (replies.Group m) fits rfits has k below = absurd has
-call_again (calls.DropRun i) replies.Done fits rfits has k below = absurd has
-call_again (calls.Retire i) (replies.Task seens.Gone) fits rfits has k below = rw (small_again k below, small_again i.0 fits) refl
-call_again (calls.Retire i) (replies.Task (seens.Live s p t n)) fits rfits has k below = rw (small_again k below, small_again i.0 fits, seen_again (seens.Live s p t n) rfits has) refl
-call_again (calls.Retire i) (replies.Group m) fits rfits has k below = absurd has
-call_again (calls.Retire i) replies.Done fits rfits has k below = absurd has
-call_again (calls.Post i b) (replies.Task s) fits rfits has k below = absurd has
-call_again (calls.Post i b) (replies.Group m) fits rfits has k below = absurd has
-call_again (calls.Post i b) replies.Done fits rfits has k below = rw (small_again k below, small_again i.0 fits.0, small_again b fits.1) refl
-call_again (calls.Get g) (replies.Task s) fits rfits has k below = absurd has
-call_again (calls.Get g) (replies.Group m) fits rfits has k below = rw (small_again k below, small_again g fits, hex_again m rfits) refl
-call_again (calls.Get g) replies.Done fits rfits has k below = absurd has
-call_again (calls.Draw i) (replies.Task s) fits rfits has k below = absurd has
-call_again (calls.Draw i) (replies.Group m) fits rfits has k below = absurd has
-call_again (calls.Draw i) replies.Done fits rfits has k below = rw (small_again k below, small_again i.0 fits) refl
+end_fits : (r : Bool) → end_index r < 2
+end_fits true = omega arith
+end_fits false = omega arith
 
 -- what is read of the words of a line
 words_again : (l : Line) → HasTextLine l → said_by (line_words l) ≡ Some (Holds l)
-unfolding entry_read
-words_again (line.Round number tick) has = rw (small_again number has.0, small_again tick has.1) refl
-words_again (line.Entry e) has = call_again e.call e.reply has.0.1 has.0.2 has.1 e.caller.0 has.0.0
-words_again (line.End rest last) has = rw (rest_again rest, small_again last has) refl
+words_again (line.Round number tick) has = plain_again kinds.Round (of_small number ∷ of_small tick ∷ []) (has.0, (tt, (has.1, tt)))
+words_again (line.Entry e) has =
+    ap (λ o. o or_else plain_in (line_words (line.Entry e))) (entry_again e.caller.0 e.call e.reply has.0.0 has.0.1 has.0.2 has.1)
+words_again (line.End rest last) has =
+    plain_again kinds.End (of_index (end_index rest) ∷ of_small last ∷ []) (end_fits rest, (has, tt)) ∙ ap (λ r. Some (Holds (line.End r last))) (rest_again rest)
 
 -- the words of a line are plain
-seen_plain : (s : Seen) → FitsReply (replies.Task s) → HasTextSeen s → list_all plain (seen_words s) ≡ true
-seen_plain seens.Gone fits has = refl
-seen_plain (seens.Live s p k n) fits has = rw (stand_plain s, pending_plain p fits, flag_plain k, decimal_plain n (omega arith)) refl
+reply_plain : (c : Call) (r : Reply) → HasTextCall c r → FitsReply r → list_all plain (reply_words r) ≡ true
+reply_plain c (replies.Task seens.Gone) has fits = row_plain (seen_row views.Gone) [] refl refl tt
+reply_plain c (replies.Task (seens.Live s p k n)) has fits = told c has where
+  here : HasTextSeen (seens.Live s p k n) → list_all plain (seen_words (seens.Live s p k n)) ≡ true
+  here small = row_plain (seen_row (seen_name (seens.Live s p k n))) (seen_values (seens.Live s p k n)) (seen_plain _) (seen_slots_plain _) (seen_fits (seens.Live s p k n) fits small)
+
+  told : (c : Call) → HasTextCall c (replies.Task (seens.Live s p k n)) → list_all plain (seen_words (seens.Live s p k n)) ≡ true
+  told (calls.Wake i f) has = here has.1
+  told (calls.Kill i) has = here has
+  told (calls.Take i) has = here has
+  told (calls.DropRun i) has = here has
+  told (calls.Retire i) has = here has
+  told c has = absurd (assumption has)
+reply_plain c (replies.Group m) has fits = slots_plain mask_slots (of_number m ∷ []) refl (fits, tt)
+reply_plain c replies.Done has fits = refl
 
 entry_plain : (c : Call) (r : Reply) → FitsCall c → FitsReply r → HasTextCall c r → list_all plain (call_words c ++ reply_words r) ≡ true
-entry_plain (calls.Wake i f) (replies.Task s) fits rfits has = rw (decimal_plain i.0 (omega arith), reasons_plain f fits.1, seen_plain s rfits has.1) refl
-entry_plain (calls.Wake i f) (replies.Group m) fits rfits has = absurd has.1
-entry_plain (calls.Wake i f) replies.Done fits rfits has = absurd has.1
-entry_plain (calls.Kill i) (replies.Task s) fits rfits has = rw (decimal_plain i.0 (omega arith), seen_plain s rfits has) refl
-entry_plain (calls.Kill i) (replies.Group m) fits rfits has = absurd has
-entry_plain (calls.Kill i) replies.Done fits rfits has = absurd has
-entry_plain (calls.Take i) (replies.Task s) fits rfits has = rw (decimal_plain i.0 (omega arith), seen_plain s rfits has) refl
-entry_plain (calls.Take i) (replies.Group m) fits rfits has = absurd has
-entry_plain (calls.Take i) replies.Done fits rfits has = absurd has
-entry_plain (calls.DropRun i) (replies.Task s) fits rfits has = rw (decimal_plain i.0 (omega arith), seen_plain s rfits has) refl
-entry_plain (calls.DropRun i) (replies.Group m) fits rfits has = absurd has
-entry_plain (calls.DropRun i) replies.Done fits rfits has = absurd has
-entry_plain (calls.Retire i) (replies.Task s) fits rfits has = rw (decimal_plain i.0 (omega arith), seen_plain s rfits has) refl
-entry_plain (calls.Retire i) (replies.Group m) fits rfits has = absurd has
-entry_plain (calls.Retire i) replies.Done fits rfits has = absurd has
-entry_plain (calls.Post i b) (replies.Task s) fits rfits has = absurd has
-entry_plain (calls.Post i b) (replies.Group m) fits rfits has = absurd has
-entry_plain (calls.Post i b) replies.Done fits rfits has = rw (decimal_plain i.0 (omega arith), decimal_plain b (omega arith)) refl
-entry_plain (calls.Get g) (replies.Task s) fits rfits has = absurd has
-entry_plain (calls.Get g) (replies.Group m) fits rfits has = rw (decimal_plain g (omega arith), hex_plain 16 m) refl
-entry_plain (calls.Get g) replies.Done fits rfits has = absurd has
-entry_plain (calls.Draw i) (replies.Task s) fits rfits has = absurd has
-entry_plain (calls.Draw i) (replies.Group m) fits rfits has = absurd has
-entry_plain (calls.Draw i) replies.Done fits rfits has = rw (decimal_plain i.0 (omega arith)) refl
+entry_plain c r fits rfits has =
+    list_all-append plain (call_words c) (reply_words r) ∙ and_from _ _ (row_plain (call_row (name_of c)) (call_values c) (call_plain _) (call_slots_plain _) (call_fits c r fits has)) (reply_plain c r has rfits)
 
 -- the first word of a line, and those behind it
-pub first_word : Line → List ℕ
-first_word (line.Round number tick) = codes "round"
-first_word (line.Entry e) = 99 ∷ decimal e.caller.0
-first_word (line.End rest last) = codes "end"
+pub first_word : Line → Word
+first_word (line.Round number tick) = (line_row kinds.Round).name
+first_word (line.Entry e) = caller_word e.caller.0
+first_word (line.End rest last) = (line_row kinds.End).name
 
-pub more_words : Line → List (List ℕ)
-more_words (line.Round number tick) = decimal number ∷ codes "tick" ∷ decimal tick ∷ []
+pub more_words : Line → List Word
+more_words (line.Round number tick) = words (line_row kinds.Round).slots (of_small number ∷ of_small tick ∷ [])
 more_words (line.Entry e) = call_words e.call ++ reply_words e.reply
-more_words (line.End rest last) = end_word rest ∷ decimal last ∷ []
+more_words (line.End rest last) = words (line_row kinds.End).slots (of_index (end_index rest) ∷ of_small last ∷ [])
 
 pub words_are : (l : Line) → line_words l ≡ first_word l ∷ more_words l
 unfolding first_word more_words
@@ -143,9 +166,9 @@ first_plain (line.End rest last) has = refl
 
 pub more_plain : (l : Line) → HasTextLine l → list_all plain (more_words l) ≡ true
 unfolding more_words
-more_plain (line.Round number tick) has = rw (decimal_plain number (omega (arith, has.0)), decimal_plain tick (omega (arith, has.1))) refl
+more_plain (line.Round number tick) has = slots_plain (line_row kinds.Round).slots _ (line_slots_plain kinds.Round) (has.0, (tt, (has.1, tt)))
 more_plain (line.Entry e) has = entry_plain e.call e.reply has.0.1 has.0.2 has.1
-more_plain (line.End rest last) has = rw (end_plain rest, decimal_plain last (omega arith)) refl
+more_plain (line.End rest last) has = slots_plain (line_row kinds.End).slots _ (line_slots_plain kinds.End) (end_fits rest, (has, tt))
 
 -- a line of a run is read as it is written
 pub line_again : (l : Line) → HasTextLine l → said (join_with_byte 32 (first_word l ∷ more_words l)) ≡ Some (Holds l)

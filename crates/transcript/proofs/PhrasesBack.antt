@@ -1,255 +1,181 @@
--- What is read of a line is written as the same bytes.
-use Rattle.std.proofs.Common.{◌≡◌, ℕ, ◌^◌, ◌<◌, Bool, true, false, if◌then◌else◌, List, [], ◌∷◌, ◌++◌, Option, Some, None, codes, decimal, refl, ap, ◌∙◌, sym, subst, arith, inl, inr, ⊎_elim, ◌⊎◌}
-use Rattle.std.specs.List.{join_with_byte, AllByRecursion}
-use Rattle.std.specs.Str.{bytes_eq}
-use Rattle.std.specs.Cmp.Lexicographic.{same_text}
+-- What is read of a line is written as the same words.
+use Rattle.std.proofs.Common.{◌≡◌, ℕ, ◌^◌, ◌<◌, Bool, true, false, ◌==◌, if◌then◌else◌, List, [], ◌∷◌, ◌++◌, Option, Some, None, decimal, refl, ap, ◌∙◌, sym, subst, arith, append-nil, ⊎_elim, suc, zero}
+use Rattle.std.specs.List.{join_with_byte}
+use Rattle.std.proofs.lemmas.Option.{none-some}
+use Rattle.std.proofs.lemmas.Bool.{eqb-true}
 use Rattle.std.proofs.lemmas.List.Splits.{join_with_byte-slice_split}
-use Rattle.std.proofs.lemmas.Bool.{cases_Bool, cond-true, cond-false}
-use Rattle.sched_base.specs.declared.names.TaskId.{TaskId}
-use Rattle.task_machine.specs.declared.task.Stand.{Stand}
 use Rattle.task_machine.specs.declared.task.Seen.{Seen}
 use Rattle.task_machine.specs.declared.task.Seen.TheVariants as seens
 use Rattle.task_machine.specs.declared.calls.Call.{Call}
 use Rattle.task_machine.specs.declared.calls.Reply.{Reply}
 use Rattle.task_machine.specs.declared.calls.Reply.TheVariants as replies
+use Rattle.text_lines.specs.Steps.{◌>>=◌, ◌or_else◌, only_if, is_empty}
+use Rattle.text_lines.specs.Pieces.{Word, pieces}
+use Rattle.text_lines.specs.Numbers.{number}
+use Rattle.text_lines.specs.Slots.{Value, of_small, of_number, of_reasons, of_index, number_at}
+use Rattle.text_lines.specs.Shapes.{Fits, Front, front, Part, part_at, words, row_words}
+use Rattle.text_lines.proofs.Steps.{some_same, bind_some, only_some, or_some}
+use Rattle.text_lines.proofs.NumbersAgain.{number_back}
+use Rattle.text_lines.proofs.FrontBack.{front_back}
+use Rattle.text_lines.proofs.Parts.{part_back}
+use Rattle.transcript.specs.declared.lines.Line.TheVariants as line
 use Rattle.transcript.specs.declared.shape.CallName.{CallName}
 use Rattle.transcript.specs.declared.shape.CallName.TheVariants as names
+use Rattle.transcript.specs.declared.shape.Answer.{Answer}
+use Rattle.transcript.specs.declared.shape.Answer.TheVariants as answers
+use Rattle.transcript.specs.declared.shape.SeenName.{SeenName}
+use Rattle.transcript.specs.declared.shape.SeenName.TheVariants as views
+use Rattle.transcript.specs.declared.shape.LineName.{LineName}
+use Rattle.transcript.specs.declared.shape.LineName.TheVariants as kinds
 use Rattle.transcript.specs.declared.shape.Said.{Said}
 use Rattle.transcript.specs.declared.shape.Said.TheVariants.{First, Holds}
-use Rattle.transcript.specs.HasText.{HasTextSeen, HasTextCall, HasTextLine, FitsReply, FitsCall}
-use Rattle.transcript.specs.Spelling.{stand_word, flag_word, end_word, seen_words, reply_words, call_words, line_words, first_words}
-use Rattle.transcript.specs.Grammar.{◌>>=◌, stand_table, flag_table, at_rest_table, call_name_table, is, one_of, stand, flag, at_rest, call_name, pending, reasons, hex, small, takes_number, seen, sees, wake, post, get, draw, call, caller_number, entry_line, round_line, end_line, first_line, or_else, said_by, said, pieces}
-use Rattle.transcript.proofs.NumbersAgain.{number_back, some_same}
-use Rattle.transcript.proofs.HexAgain.{hex_back}
-use Rattle.transcript.proofs.ReasonsAgain.{reasons_back, pending_back}
+use Rattle.transcript.specs.Tables.{call_row, call_names, answer_of, mask_slots, live, seen_row, seen_names, line_row, line_names}
+use Rattle.transcript.specs.HasText.{HasTextSeen, HasTextCall, HasTextLine, TellsTask, TellsGroup, TellsNothing, FitsReply, FitsCall}
+use Rattle.transcript.specs.Spelling.{call_words, seen_words, fate_index, reply_words, caller_word, end_index, line_words, first_words}
+use Rattle.transcript.specs.Grammar.{call_of, seen_of, line_of, at_end, seen_in, reply_in, caller_in, entry_of, entry_in, plain_in, said_by, said}
 
--- what a step gave, and what went on with it
-bind_some : {A B : Type 0} (o : Option A) (f : A → Option B) (y : B) → (o >>= f) ≡ Some y → (x : A) × (o ≡ Some x) × (f x ≡ Some y)
-bind_some None f y e = cc
-bind_some (Some x) f y e = (x, refl, e)
+-- no word was left
+nothing_left : {A : Type 0} (ws : List Word) (x y : A) → at_end ws x ≡ Some y → (ws ≡ []) × (x ≡ y)
+nothing_left [] x y e = (refl, some_same e)
+nothing_left (w ∷ ws) x y e = absurd (none-some y e)
 
-small_back : (w : List ℕ) (n : ℕ) → small w ≡ Some n → (w ≡ decimal n) × (n < 2 ^ 32)
-small_back w n e = let b = number_back 4294967295 n w (omega arith) e in (b.0, omega (arith, b.1))
+-- the answer is of this kind
+abbrev Answers : Answer → Reply → Type 0
+Answers answers.Seen r = TellsTask r
+Answers answers.Group r = TellsGroup r
+Answers answers.Nothing r = TellsNothing r
 
-takes_back : (w : List ℕ) (n : ℕ) → takes_number w ≡ Some n → (w ≡ decimal n) × (n < 2 ^ 48)
-takes_back w n e = let b = number_back 281474976710655 n w (omega arith) e in (b.0, omega (arith, b.1))
+-- the call of the values of a row has these values
+pub record CallBack (k : CallName) (vs : List Value) : Type 0 where
+  pub words : row_words (call_row k) vs ≡ call_words (call_of k vs)
+  pub fits : FitsCall (call_of k vs)
+  pub texts : (r : Reply) → Answers (answer_of k) r → HasTextCall (call_of k vs) r
 
-is_back : (s w : List ℕ) (u : Unit {0}) → is s w ≡ Some u → w ≡ s
-is_back s w u e = go (bytes_eq s w) refl e where
-  go : (b : Bool) → bytes_eq s w ≡ b → (if b then Some tt else None) ≡ Some u → w ≡ s
-  go true t e = sym (same_text s w (sym t))
-  go false t e = cc
-
-one_of_back : {A : Type 0} (spell : A → List ℕ) (rows : List (List ℕ × A)) (w : List ℕ) (x : A) → AllByRecursion (λ (row : List ℕ × A). spell row.1 ≡ row.0) rows → one_of rows w ≡ Some x → w ≡ spell x
-one_of_back spell [] w x same e = cc
-one_of_back {A} spell (row ∷ rows) w x same e =
-    let yes : bytes_eq row.0 w ≡ true → w ≡ spell x = λ t. sym (same_text row.0 w (sym t)) ∙ sym same.0 ∙ ap spell (some_same (sym (cond-true (bytes_eq row.0 w) (Some row.1) (one_of rows w) t) ∙ e)) in
-    let no : bytes_eq row.0 w ≡ false → w ≡ spell x = λ t. one_of_back spell rows w x same.1 (sym (cond-false (bytes_eq row.0 w) (Some row.1) (one_of rows w) t) ∙ e) in
-    ⊎_elim yes no (cases_Bool (bytes_eq row.0 w))
-
-stand_back : (w : List ℕ) (s : Stand) → stand w ≡ Some s → w ≡ stand_word s
-stand_back w s e = one_of_back stand_word stand_table w s (refl, (refl, (refl, tt))) e
-
-flag_back : (w : List ℕ) (k : Bool) → flag w ≡ Some k → w ≡ flag_word k
-flag_back w k e = one_of_back flag_word flag_table w k (refl, (refl, tt)) e
-
-rest_back : (w : List ℕ) (r : Bool) → at_rest w ≡ Some r → w ≡ end_word r
-rest_back w r e = one_of_back end_word at_rest_table w r (refl, (refl, tt)) e
-
-name_word : CallName → List ℕ
-name_word names.Wake = codes "wake"
-name_word names.Kill = codes "kill"
-name_word names.Post = codes "post"
-name_word names.Get = codes "get"
-name_word names.Draw = codes "draw"
-name_word names.Take = codes "take"
-name_word names.DropRun = codes "drop"
-name_word names.Retire = codes "retire"
-
-name_back : (w : List ℕ) (n : CallName) → call_name w ≡ Some n → w ≡ name_word n
-unfolding name_word
-name_back w n e = one_of_back name_word call_name_table w n (refl, (refl, (refl, (refl, (refl, (refl, (refl, (refl, tt)))))))) e
+call_back : (k : CallName) (vs : List Value) → Fits (call_row k).slots vs → CallBack k vs
+call_back names.Wake (of_small i ∷ of_reasons f ∷ []) fits = record { words = refl; fits = (fits.0, fits.1.0.1); texts = λ r t. (fits.1.0.0, t) }
+call_back names.Kill (of_small i ∷ []) fits = record { words = refl; fits = fits.0; texts = λ r t. t }
+call_back names.Post (of_small i ∷ of_small b ∷ []) fits = record { words = refl; fits = (fits.0, fits.1.0); texts = λ r t. t }
+call_back names.Get (of_small g ∷ []) fits = record { words = refl; fits = fits.0; texts = λ r t. t }
+call_back names.Draw (of_small i ∷ []) fits = record { words = refl; fits = fits.0; texts = λ r t. t }
+call_back names.Take (of_small i ∷ []) fits = record { words = refl; fits = fits.0; texts = λ r t. t }
+call_back names.DropRun (of_small i ∷ []) fits = record { words = refl; fits = fits.0; texts = λ r t. t }
+call_back names.Retire (of_small i ∷ []) fits = record { words = refl; fits = fits.0; texts = λ r t. t }
+call_back k vs fits = absurd (assumption fits)
 
 -- what a call saw
-abbrev SeenBack : List (List ℕ) → Seen → Type 0
+abbrev SeenBack : List Word → Seen → Type 0
 SeenBack ws s = (ws ≡ seen_words s) × FitsReply (replies.Task s) × HasTextSeen s
 
-words_four : {a b c d x y z w : List ℕ} → a ≡ x → b ≡ y → c ≡ z → d ≡ w → (a ∷ b ∷ c ∷ d ∷ []) ≡ (x ∷ y ∷ z ∷ w ∷ [])
-words_four p q r s = cc
+fate_same : (i : ℕ) → i < 2 → fate_index (i == 1) ≡ i
+fate_same zero below = refl
+fate_same (suc zero) below = refl
+fate_same (suc (suc i)) below = absurd (omega arith)
 
-seen_back : (ws : List (List ℕ)) (s : Seen) → seen ws ≡ Some s → SeenBack ws s
-seen_back [] s e = cc
-seen_back (w ∷ []) s e =
-    let a = bind_some (is (codes "gone") w) (λ _. Some seens.Gone) s e in
-    subst (SeenBack (w ∷ [])) (some_same a.2) (ap (λ x. x ∷ []) (is_back (codes "gone") w a.0 a.1), tt, tt)
-seen_back (a ∷ b ∷ []) s e = cc
-seen_back (a ∷ b ∷ c ∷ []) s e = cc
-seen_back (a ∷ b ∷ c ∷ d ∷ []) s e =
-    let p = bind_some (stand a) _ s e in
-    let q = bind_some (pending b) _ s p.2 in
-    let r = bind_some (flag c) _ s q.2 in
-    let t = bind_some (takes_number d) _ s r.2 in
-    let pb = pending_back b q.0 q.1 in
-    let tb = takes_back d t.0 t.1 in
-    subst (SeenBack (a ∷ b ∷ c ∷ d ∷ [])) (some_same t.2) (words_four (stand_back a p.0 p.1) pb.0 (flag_back c r.0 r.1) tb.0, pb.1, tb.1)
-seen_back (a ∷ b ∷ c ∷ d ∷ x ∷ xs) s e = cc
+live_fits : (vs : List Value) → Fits live vs → (p : ℕ) × (i : ℕ) × (n : ℕ) × (vs ≡ of_reasons p ∷ of_index i ∷ of_number n ∷ []) × (p < 128) × (i < 2) × (n < 2 ^ 48)
+live_fits (of_reasons p ∷ of_index i ∷ of_number n ∷ []) fits = (p, i, n, refl, fits.0, fits.1.0, fits.1.1.0)
+live_fits vs fits = absurd (assumption fits)
 
--- a task's number, and what a call saw of it
-abbrev SeesBack : List (List ℕ) → TaskId × Seen → Type 0
-SeesBack ws x = (ws ≡ decimal x.0.0 ∷ seen_words x.1) × (x.0.0 < 2 ^ 32) × FitsReply (replies.Task x.1) × HasTextSeen x.1
+seen_values_back : (k : SeenName) (vs : List Value) → Fits (seen_row k).slots vs → SeenBack (row_words (seen_row k) vs) (seen_of k vs)
+seen_values_back views.Gone [] fits = (refl, tt, tt)
+seen_values_back views.Gone (v ∷ vs) fits = absurd fits
+seen_values_back views.Rest vs fits =
+    let l = live_fits vs fits in
+    subst (λ vs. SeenBack (row_words (seen_row views.Rest) vs) (seen_of views.Rest vs)) (sym l.3) (ap (λ i. row_words (seen_row views.Rest) (of_reasons l.0 ∷ of_index i ∷ of_number l.2 ∷ [])) (sym (fate_same l.1 l.5)), l.4, l.6)
+seen_values_back views.Queued vs fits =
+    let l = live_fits vs fits in
+    subst (λ vs. SeenBack (row_words (seen_row views.Queued) vs) (seen_of views.Queued vs)) (sym l.3) (ap (λ i. row_words (seen_row views.Queued) (of_reasons l.0 ∷ of_index i ∷ of_number l.2 ∷ [])) (sym (fate_same l.1 l.5)), l.4, l.6)
+seen_values_back views.Runs vs fits =
+    let l = live_fits vs fits in
+    subst (λ vs. SeenBack (row_words (seen_row views.Runs) vs) (seen_of views.Runs vs)) (sym l.3) (ap (λ i. row_words (seen_row views.Runs) (of_reasons l.0 ∷ of_index i ∷ of_number l.2 ∷ [])) (sym (fate_same l.1 l.5)), l.4, l.6)
 
-cons_same : {a b : List ℕ} {xs ys : List (List ℕ)} → a ≡ b → xs ≡ ys → (a ∷ xs) ≡ (b ∷ ys)
-cons_same p q = cc
+seen_back : (ws : List Word) (s : Seen) → seen_in ws ≡ Some s → SeenBack ws s
+seen_back ws s e =
+    let p = bind_some (part_at seen_row seen_names ws) _ s e in
+    let end = nothing_left p.0.rest (seen_of p.0.kind p.0.values) s p.2 in
+    let back = part_back seen_row seen_names ws p.0 p.1 in
+    let whole : row_words (seen_row p.0.kind) p.0.values ≡ ws = sym (back.0 ∙ ap (λ rest. row_words (seen_row p.0.kind) p.0.values ++ rest) end.0 ∙ append-nil (row_words (seen_row p.0.kind) p.0.values)) in
+    subst (λ ws. SeenBack ws s) whole (subst (SeenBack (row_words (seen_row p.0.kind) p.0.values)) end.1 (seen_values_back p.0.kind p.0.values back.1))
 
-sees_back : (ws : List (List ℕ)) (x : TaskId × Seen) → sees ws ≡ Some x → SeesBack ws x
-sees_back [] x e = cc
-sees_back (i ∷ more) x e =
-    let p = bind_some (small i) _ x e in
-    let q = bind_some (seen more) _ x p.2 in
-    let pb = small_back i p.0 p.1 in
-    let qb = seen_back more q.0 q.1 in
-    subst (SeesBack (i ∷ more)) (some_same q.2) (cons_same pb.0 qb.0, pb.1, qb.1, qb.2)
+-- the answer to a call
+abbrev ReplyBack : Answer → List Word → Reply → Type 0
+ReplyBack a ws r = (ws ≡ reply_words r) × FitsReply r × Answers a r
 
--- a call and its answer, with the call's name in front
-abbrev CallBack : List (List ℕ) → Call × Reply → Type 0
-CallBack ws c = (ws ≡ call_words c.0 ++ reply_words c.1) × FitsCall c.0 × FitsReply c.1 × HasTextCall c.0 c.1
+mask_fits : (vs : List Value) → Fits mask_slots vs → (n : ℕ) × (vs ≡ of_number n ∷ []) × (n < 2 ^ 64)
+mask_fits (of_number n ∷ []) fits = (n, refl, fits.0)
+mask_fits vs fits = absurd (assumption fits)
 
-wake_back : (ws : List (List ℕ)) (c : Call × Reply) → wake ws ≡ Some c → CallBack (codes "wake" ∷ ws) c
-wake_back [] c e = cc
-wake_back (i ∷ []) c e = cc
-wake_back (i ∷ f ∷ more) c e =
-    let p = bind_some (small i) _ c e in
-    let q = bind_some (reasons f) _ c p.2 in
-    let r = bind_some (seen more) _ c q.2 in
-    let pb = small_back i p.0 p.1 in
-    let qb = reasons_back f q.0 q.1 in
-    let rb = seen_back more r.0 r.1 in
-    subst (CallBack (codes "wake" ∷ i ∷ f ∷ more)) (some_same r.2) (cons_same refl (cons_same pb.0 (cons_same qb.0 rb.0)), (pb.1, qb.2), rb.1, (qb.1, rb.2))
+group_back : (ws : List Word) (r : Reply) → reply_in answers.Group ws ≡ Some r → ReplyBack answers.Group ws r
+group_back ws r e =
+    let p = bind_some (front mask_slots ws) _ r e in
+    let end = nothing_left p.0.1 (replies.Group (number_at p.0.0 0)) r p.2 in
+    let back = front_back mask_slots ws p.0 p.1 in
+    let m = mask_fits p.0.0 back.1 in
+    let whole : words mask_slots (of_number m.0 ∷ []) ≡ ws = sym (back.0 ∙ ap (λ rest. words mask_slots p.0.0 ++ rest) end.0 ∙ append-nil (words mask_slots p.0.0) ∙ ap (words mask_slots) m.1) in
+    let same : replies.Group m.0 ≡ r = ap (λ vs. replies.Group (number_at vs 0)) (sym m.1) ∙ end.1 in
+    subst (λ ws. ReplyBack answers.Group ws r) whole (subst (ReplyBack answers.Group (words mask_slots (of_number m.0 ∷ []))) same (refl, m.2, tt))
 
-post_back : (ws : List (List ℕ)) (c : Call × Reply) → post ws ≡ Some c → CallBack (codes "post" ∷ ws) c
-post_back [] c e = cc
-post_back (i ∷ []) c e = cc
-post_back (i ∷ b ∷ []) c e =
-    let p = bind_some (small i) _ c e in
-    let q = bind_some (small b) _ c p.2 in
-    let pb = small_back i p.0 p.1 in
-    let qb = small_back b q.0 q.1 in
-    subst (CallBack (codes "post" ∷ i ∷ b ∷ [])) (some_same q.2) (cons_same refl (cons_same pb.0 (cons_same qb.0 refl)), (pb.1, qb.1), tt, tt)
-post_back (i ∷ b ∷ x ∷ xs) c e = cc
+reply_back : (a : Answer) (ws : List Word) (r : Reply) → reply_in a ws ≡ Some r → ReplyBack a ws r
+reply_back answers.Seen ws r e =
+    let p = bind_some (seen_in ws) _ r e in
+    let back = seen_back ws p.0 p.1 in
+    subst (ReplyBack answers.Seen ws) (some_same p.2) (back.0, back.1, back.2)
+reply_back answers.Group ws r e = group_back ws r e
+reply_back answers.Nothing ws r e =
+    let end = nothing_left ws replies.Done r e in
+    subst (ReplyBack answers.Nothing ws) end.1 (end.0, tt, tt)
 
-get_back : (ws : List (List ℕ)) (c : Call × Reply) → get ws ≡ Some c → CallBack (codes "get" ∷ ws) c
-get_back [] c e = cc
-get_back (g ∷ []) c e = cc
-get_back (g ∷ m ∷ []) c e =
-    let p = bind_some (small g) _ c e in
-    let q = bind_some (hex m) _ c p.2 in
-    let pb = small_back g p.0 p.1 in
-    let qb = hex_back m q.0 q.1 in
-    subst (CallBack (codes "get" ∷ g ∷ m ∷ [])) (some_same q.2) (cons_same refl (cons_same pb.0 (cons_same qb.0 refl)), pb.1, qb.1, tt)
-get_back (g ∷ m ∷ x ∷ xs) c e = cc
-
-draw_back : (ws : List (List ℕ)) (c : Call × Reply) → draw ws ≡ Some c → CallBack (codes "draw" ∷ ws) c
-draw_back [] c e = cc
-draw_back (i ∷ []) c e =
-    let p = bind_some (small i) _ c e in
-    let pb = small_back i p.0 p.1 in
-    subst (CallBack (codes "draw" ∷ i ∷ [])) (some_same p.2) (cons_same refl (cons_same pb.0 refl), pb.1, tt, tt)
-draw_back (i ∷ x ∷ xs) c e = cc
-
-call_back : (n : CallName) (ws : List (List ℕ)) (c : Call × Reply) → call n ws ≡ Some c → CallBack (name_word n ∷ ws) c
-unfolding name_word
-call_back names.Wake ws c e = wake_back ws c e
-call_back names.Post ws c e = post_back ws c e
-call_back names.Get ws c e = get_back ws c e
-call_back names.Draw ws c e = draw_back ws c e
-call_back names.Kill ws c e =
-    let p = bind_some (sees ws) _ c e in
-    let b = sees_back ws p.0 p.1 in
-    subst (CallBack (codes "kill" ∷ ws)) (some_same p.2) (cons_same refl b.0, b.1, b.2, b.3)
-call_back names.Take ws c e =
-    let p = bind_some (sees ws) _ c e in
-    let b = sees_back ws p.0 p.1 in
-    subst (CallBack (codes "take" ∷ ws)) (some_same p.2) (cons_same refl b.0, b.1, b.2, b.3)
-call_back names.DropRun ws c e =
-    let p = bind_some (sees ws) _ c e in
-    let b = sees_back ws p.0 p.1 in
-    subst (CallBack (codes "drop" ∷ ws)) (some_same p.2) (cons_same refl b.0, b.1, b.2, b.3)
-call_back names.Retire ws c e =
-    let p = bind_some (sees ws) _ c e in
-    let b = sees_back ws p.0 p.1 in
-    subst (CallBack (codes "retire" ∷ ws)) (some_same p.2) (cons_same refl b.0, b.1, b.2, b.3)
-
-caller_back : (w : List ℕ) (k : ℕ) → caller_number w ≡ Some k → (w ≡ 99 ∷ decimal k) × (k < 2 ^ 32)
-caller_back [] k e = cc
-caller_back (c ∷ w) k e =
-    let p = bind_some (is (codes "c") (c ∷ [])) _ k e in
-    let letter : (c ∷ []) ≡ codes "c" = is_back (codes "c") (c ∷ []) p.0 p.1 in
-    let b = small_back w k p.2 in
-    (first letter b.0, b.1) where
-      first : {c d : ℕ} {xs ys : List ℕ} → (c ∷ []) ≡ (d ∷ []) → xs ≡ ys → (c ∷ xs) ≡ (d ∷ ys)
-      first p q = cc
+caller_back : (w : Word) (k : ℕ) → caller_in w ≡ Some k → (w ≡ caller_word k) × (k < 2 ^ 32)
+caller_back [] k e = absurd (none-some k e)
+caller_back (c ∷ w) k e = go (c == 99) refl e where
+  go : (b : Bool) → (c == 99) ≡ b → (if b then number 4294967295 w else None) ≡ Some k → (c ∷ w ≡ caller_word k) × (k < 2 ^ 32)
+  go true t e =
+      let b = number_back 4294967295 k w (omega arith) e in
+      let letter : c ≡ 99 = eqb-true c 99 t in
+      (ap (λ c. c ∷ w) letter ∙ ap (λ w. 99 ∷ w) b.0, omega (arith, b.1))
+  go false t e = absurd (none-some k e)
 
 -- what a line says, and its words
-abbrev pub SaidBack : List (List ℕ) → Said → Type 0
+abbrev pub SaidBack : List Word → Said → Type 0
 SaidBack ws First = ws ≡ first_words
 SaidBack ws (Holds l) = (ws ≡ line_words l) × HasTextLine l
 
-first_line_back : (ws : List (List ℕ)) (s : Said) → first_line ws ≡ Some s → SaidBack ws s
-first_line_back [] s e = cc
-first_line_back (a ∷ []) s e = cc
-first_line_back (a ∷ b ∷ []) s e =
-    let p = bind_some (is (codes "taskrun") a) _ s e in
-    let q = bind_some (is (codes "1") b) _ s p.2 in
-    subst (SaidBack (a ∷ b ∷ [])) (some_same q.2) (cons_same (is_back (codes "taskrun") a p.0 p.1) (cons_same (is_back (codes "1") b q.0 q.1) refl))
-first_line_back (a ∷ b ∷ x ∷ xs) s e = cc
+cons_same : {a b : Word} {xs ys : List Word} → a ≡ b → xs ≡ ys → (a ∷ xs) ≡ (b ∷ ys)
+cons_same p q = cc
 
-round_line_back : (ws : List (List ℕ)) (s : Said) → round_line ws ≡ Some s → SaidBack ws s
-round_line_back [] s e = cc
-round_line_back (a ∷ []) s e = cc
-round_line_back (a ∷ b ∷ []) s e = cc
-round_line_back (a ∷ b ∷ c ∷ []) s e = cc
-round_line_back (a ∷ b ∷ c ∷ d ∷ []) s e =
-    let p = bind_some (is (codes "round") a) _ s e in
-    let q = bind_some (small b) _ s p.2 in
-    let r = bind_some (is (codes "tick") c) _ s q.2 in
-    let t = bind_some (small d) _ s r.2 in
-    let qb = small_back b q.0 q.1 in
-    let tb = small_back d t.0 t.1 in
-    subst (SaidBack (a ∷ b ∷ c ∷ d ∷ [])) (some_same t.2) (words_four (is_back (codes "round") a p.0 p.1) qb.0 (is_back (codes "tick") c r.0 r.1) tb.0, (qb.1, tb.1))
-round_line_back (a ∷ b ∷ c ∷ d ∷ x ∷ xs) s e = cc
+entry_back : (ws : List Word) (s : Said) → entry_in ws ≡ Some s → SaidBack ws s
+entry_back [] s e = absurd (none-some s e)
+entry_back (w ∷ ws) s e =
+    let k = bind_some (caller_in w) _ s e in
+    let p = bind_some (part_at call_row call_names ws) _ s k.2 in
+    let r = bind_some (reply_in (answer_of p.0.kind) p.0.rest) _ s p.2 in
+    let caller = caller_back w k.0 k.1 in
+    let part = part_back call_row call_names ws p.0 p.1 in
+    let call = call_back p.0.kind p.0.values part.1 in
+    let reply = reply_back (answer_of p.0.kind) p.0.rest r.0 r.1 in
+    let more : ws ≡ call_words (call_of p.0.kind p.0.values) ++ reply_words r.0 = part.0 ∙ ap (λ x. x ++ p.0.rest) call.words ∙ ap (λ x. call_words (call_of p.0.kind p.0.values) ++ x) reply.0 in
+    subst (SaidBack (w ∷ ws)) (some_same r.2) (cons_same caller.0 more, ((caller.1, call.fits, reply.1), call.texts r.0 reply.2))
 
-end_line_back : (ws : List (List ℕ)) (s : Said) → end_line ws ≡ Some s → SaidBack ws s
-end_line_back [] s e = cc
-end_line_back (a ∷ []) s e = cc
-end_line_back (a ∷ b ∷ []) s e = cc
-end_line_back (a ∷ b ∷ c ∷ []) s e =
-    let p = bind_some (is (codes "end") a) _ s e in
-    let q = bind_some (at_rest b) _ s p.2 in
-    let r = bind_some (small c) _ s q.2 in
-    let rb = small_back c r.0 r.1 in
-    subst (SaidBack (a ∷ b ∷ c ∷ [])) (some_same r.2) (cons_same (is_back (codes "end") a p.0 p.1) (cons_same (rest_back b q.0 q.1) (cons_same rb.0 refl)), rb.1)
-end_line_back (a ∷ b ∷ c ∷ x ∷ xs) s e = cc
+rest_same : (i : ℕ) → i < 2 → end_index (i == 0) ≡ i
+rest_same zero below = refl
+rest_same (suc zero) below = refl
+rest_same (suc (suc i)) below = absurd (omega arith)
 
-entry_line_back : (ws : List (List ℕ)) (s : Said) → entry_line ws ≡ Some s → SaidBack ws s
-entry_line_back [] s e = cc
-entry_line_back (k ∷ []) s e = cc
-entry_line_back (k ∷ o ∷ more) s e =
-    let p = bind_some (caller_number k) _ s e in
-    let q = bind_some (call_name o) _ s p.2 in
-    let r = bind_some (call q.0 more) _ s q.2 in
-    let pb = caller_back k p.0 p.1 in
-    let rb = call_back q.0 more r.0 r.1 in
-    subst (SaidBack (k ∷ o ∷ more)) (some_same r.2) (cons_same pb.0 (cons_same (name_back o q.0 q.1) refl ∙ rb.0), ((pb.1, rb.1, rb.2), rb.3))
+line_values_back : (k : LineName) (vs : List Value) → Fits (line_row k).slots vs → SaidBack (row_words (line_row k) vs) (line_of k vs)
+line_values_back kinds.First [] fits = refl
+line_values_back kinds.Round (of_small n ∷ of_small t ∷ []) fits = (refl, (fits.0, fits.1.1.0))
+line_values_back kinds.End (of_index i ∷ of_small n ∷ []) fits = (ap (λ i. row_words (line_row kinds.End) (of_index i ∷ of_small n ∷ [])) (sym (rest_same i fits.0)), fits.1.0)
+line_values_back k vs fits = absurd (assumption fits)
 
-either_back : (a b : Option Said) (s : Said) → or_else a b ≡ Some s → (a ≡ Some s) ⊎ (b ≡ Some s)
-either_back None b s e = inr e
-either_back (Some x) b s e = inl e
+plain_back : (ws : List Word) (s : Said) → plain_in ws ≡ Some s → SaidBack ws s
+plain_back ws s e =
+    let p = bind_some (part_at line_row line_names ws) _ s e in
+    let end = nothing_left p.0.rest (line_of p.0.kind p.0.values) s p.2 in
+    let back = part_back line_row line_names ws p.0 p.1 in
+    let whole : row_words (line_row p.0.kind) p.0.values ≡ ws = sym (back.0 ∙ ap (λ rest. row_words (line_row p.0.kind) p.0.values ++ rest) end.0 ∙ append-nil (row_words (line_row p.0.kind) p.0.values)) in
+    subst (λ ws. SaidBack ws s) whole (subst (SaidBack (row_words (line_row p.0.kind) p.0.values)) end.1 (line_values_back p.0.kind p.0.values back.1))
 
-said_by_back : (ws : List (List ℕ)) (s : Said) → said_by ws ≡ Some s → SaidBack ws s
-said_by_back ws s e =
-    let entry_or_end : or_else (entry_line ws) (end_line ws) ≡ Some s → SaidBack ws s = λ f. ⊎_elim (entry_line_back ws s) (end_line_back ws s) (either_back (entry_line ws) (end_line ws) s f) in
-    let round_or_more : or_else (round_line ws) (or_else (entry_line ws) (end_line ws)) ≡ Some s → SaidBack ws s = λ f. ⊎_elim (round_line_back ws s) entry_or_end (either_back (round_line ws) (or_else (entry_line ws) (end_line ws)) s f) in
-    ⊎_elim (first_line_back ws s) round_or_more (either_back (first_line ws) (or_else (round_line ws) (or_else (entry_line ws) (end_line ws))) s e)
+said_by_back : (ws : List Word) (s : Said) → said_by ws ≡ Some s → SaidBack ws s
+said_by_back ws s e = ⊎_elim (entry_back ws s) (plain_back ws s) (or_some (entry_in ws) (plain_in ws) s e)
 
 -- a line is its words, joined by spaces
 pub said_back : (text : List ℕ) (s : Said) → said text ≡ Some s → (text ≡ join_with_byte 32 (pieces 32 text)) × SaidBack (pieces 32 text) s

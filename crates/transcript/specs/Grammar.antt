@@ -1,11 +1,6 @@
--- What the words of a line say (docs/TRANSCRIPT.md, "Shapes").
-use Rattle.std.specs.Prelude.{ℕ, ◌+◌, ◌*◌, Bool, true, false, not, ◌&&◌, ◌==◌, if◌then◌else◌, nat_lt, nat_le, List, [], ◌∷◌, length, codes, Option, Some, None, slice_index}
-use Rattle.std.specs.Borrow.{Bor}
-use Rattle.std.specs.List.{slice_split, list_all}
-use Rattle.std.specs.Str.{bytes_eq, all_ascii_digits}
-use Rattle.std.specs.Str.Parse.{digits_value}
+-- What the words of a line say: docs/TRANSCRIPT.md, "Shapes".
+use Rattle.std.specs.Prelude.{ℕ, Bool, ◌==◌, if◌then◌else◌, List, [], ◌∷◌, Option, Some, None}
 use Rattle.sched_base.specs.declared.names.TaskId.{TaskId}
-use Rattle.task_machine.specs.declared.task.Stand.{Stand}
 use Rattle.task_machine.specs.declared.task.Stand.TheVariants as stands
 use Rattle.task_machine.specs.declared.task.Seen.{Seen}
 use Rattle.task_machine.specs.declared.task.Seen.TheVariants as seens
@@ -13,241 +8,88 @@ use Rattle.task_machine.specs.declared.calls.Call.{Call}
 use Rattle.task_machine.specs.declared.calls.Call.TheVariants as calls
 use Rattle.task_machine.specs.declared.calls.Reply.{Reply}
 use Rattle.task_machine.specs.declared.calls.Reply.TheVariants as replies
+use Rattle.text_lines.specs.Steps.{◌>>=◌, ◌or_else◌, only_if, is_empty}
+use Rattle.text_lines.specs.Pieces.{Word, pieces}
+use Rattle.text_lines.specs.Numbers.{number}
+use Rattle.text_lines.specs.Slots.{Value, small_at, number_at, reasons_at, index_at}
+use Rattle.text_lines.specs.Shapes.{Part, front, part_at}
 use Rattle.transcript.specs.declared.lines.Line.TheVariants as lines
 use Rattle.transcript.specs.declared.shape.CallName.{CallName}
 use Rattle.transcript.specs.declared.shape.CallName.TheVariants as names
+use Rattle.transcript.specs.declared.shape.Answer.{Answer}
+use Rattle.transcript.specs.declared.shape.Answer.TheVariants as answers
+use Rattle.transcript.specs.declared.shape.SeenName.{SeenName}
+use Rattle.transcript.specs.declared.shape.SeenName.TheVariants as views
+use Rattle.transcript.specs.declared.shape.LineName.{LineName}
+use Rattle.transcript.specs.declared.shape.LineName.TheVariants as kinds
 use Rattle.transcript.specs.declared.shape.Said.{Said}
 use Rattle.transcript.specs.declared.shape.Said.TheVariants.{First, Holds}
-use Rattle.transcript.specs.Spelling.{reason_names}
+use Rattle.transcript.specs.Tables.{call_row, call_names, answer_of, mask_slots, seen_row, seen_names, line_row, line_names}
 
--- the pieces of a text between the bytes `at`
-abbrev pub pieces : ℕ → List ℕ → List (List ℕ)
-pieces at bytes = slice_split (λ b. b == at) bytes
+-- the task whose number is the first value
+abbrev pub task : List Value → TaskId
+task vs = record { 0 = small_at vs 0 }
 
--- the pieces of what is left of a text, if anything is
-abbrev pub pieces_left : ℕ → Option (Bor (List ℕ)) → List (List ℕ)
-pieces_left at None = []
-pieces_left at (Some rest) = pieces at rest.now
+-- the call of these values
+abbrev pub call_of : CallName → List Value → Call
+call_of names.Wake vs = calls.Wake (task vs) (reasons_at vs 1)
+call_of names.Kill vs = calls.Kill (task vs)
+call_of names.Post vs = calls.Post (task vs) (small_at vs 1)
+call_of names.Get vs = calls.Get (small_at vs 0)
+call_of names.Draw vs = calls.Draw (task vs)
+call_of names.Take vs = calls.Take (task vs)
+call_of names.DropRun vs = calls.DropRun (task vs)
+call_of names.Retire vs = calls.Retire (task vs)
 
--- goes on with a value that is there
-infixl 10 ◌>>=◌
-abbrev pub ◌>>=◌ : {A B : Type 0} → Option A → (A → Option B) → Option B
-None >>= f = None
-Some x >>= f = f x
+-- what a call saw, by these values
+abbrev pub seen_of : SeenName → List Value → Seen
+seen_of views.Gone vs = seens.Gone
+seen_of views.Rest vs = seens.Live stands.Rest (reasons_at vs 0) (index_at vs 1 == 1) (number_at vs 2)
+seen_of views.Queued vs = seens.Live stands.Queued (reasons_at vs 0) (index_at vs 1 == 1) (number_at vs 2)
+seen_of views.Runs vs = seens.Live stands.Runs (reasons_at vs 0) (index_at vs 1 == 1) (number_at vs 2)
 
--- asks that the word w is s
-abbrev pub is : List ℕ → List ℕ → Option (Unit {0})
-is s w = if bytes_eq s w then Some tt else None
+-- the line of these values
+abbrev pub line_of : LineName → List Value → Said
+line_of kinds.First vs = First
+line_of kinds.Round vs = Holds (lines.Round (small_at vs 0) (small_at vs 1))
+line_of kinds.End vs = Holds (lines.End (index_at vs 0 == 0) (small_at vs 1))
 
--- what a table has for a word
-abbrev pub one_of : {A : Type 0} → List (List ℕ × A) → List ℕ → Option A
-one_of [] w = None
-one_of (row ∷ rows) w = if bytes_eq row.0 w then Some row.1 else one_of rows w
-
--- a digit 0 with more behind it
-abbrev pub has_leading_zero : List ℕ → Bool
-has_leading_zero w = nat_lt 1 (length w) && slice_index w 0 == 48
-
--- the number that digits write, if it is at most `most`
-unfoldable pub plain_number : ℕ → List ℕ → Option ℕ
-plain_number most w = if all_ascii_digits w && nat_le (digits_value 10 w) most then Some (digits_value 10 w) else None
-
--- 1 to 20 bytes, and no leading zero
-abbrev pub is_plain : List ℕ → Bool
-is_plain w = nat_lt 0 (length w) && (nat_le (length w) 20 && not (has_leading_zero w))
-
--- a number: 1 to 20 digits without a leading zero, at most `most`
-unfoldable pub number : ℕ → List ℕ → Option ℕ
-number most w = if is_plain w then plain_number most w else None
-
--- the number of a task, a caller, a box, a group or a round, or a tick
-abbrev pub small : List ℕ → Option ℕ
-small w = number 4294967295 w
-
--- a number of takes
-abbrev pub takes_number : List ℕ → Option ℕ
-takes_number w = number 281474976710655 w
-
--- a hexadecimal digit in lower case
-abbrev pub is_hex_digit : ℕ → Bool
-is_hex_digit b = if nat_le 48 b && nat_le b 57 then true else nat_le 97 b && nat_le b 102
-
--- 16 hexadecimal digits
-unfoldable pub hex : List ℕ → Option ℕ
-hex w = if length w == 16 && list_all is_hex_digit w then Some (digits_value 16 w) else None
-
--- the bits of words that are some of the names, in the order of the names
-abbrev pub bits_in : List (List ℕ) → List (List ℕ) → Option ℕ
-bits_in [] [] = Some 0
-bits_in [] (w ∷ ws) = None
-bits_in (name ∷ names) [] = Some 0
-bits_in (name ∷ names) (w ∷ ws) = elim (bytes_eq name w) [ true ↦ bits_in names ws >>= (λ n. Some (1 + 2 * n)) | false ↦ bits_in names (w ∷ ws) >>= (λ n. Some (2 * n)) ]
-
--- one reason or more, in their order and parted by commas
-unfoldable pub reasons : List ℕ → Option ℕ
-reasons w = bits_in reason_names (pieces 44 w)
-
--- reasons that are pending, or a minus for none
-abbrev pub pending : List ℕ → Option ℕ
-pending w = if bytes_eq (codes "-") w then Some 0 else reasons w
-
--- the words for where a task stands
-abbrev pub stand_table : List (List ℕ × Stand)
-stand_table = (codes "rest", stands.Rest) ∷ (codes "queued", stands.Queued) ∷ (codes "runs", stands.Runs) ∷ []
-
--- where a task stands
-abbrev pub stand : List ℕ → Option Stand
-stand = one_of stand_table
-
--- the words for whether a task was killed
-abbrev pub flag_table : List (List ℕ × Bool)
-flag_table = (codes "live", false) ∷ (codes "killed", true) ∷ []
-
--- whether a task was killed
-abbrev pub flag : List ℕ → Option Bool
-flag = one_of flag_table
-
--- the names of the calls
-abbrev pub call_name_table : List (List ℕ × CallName)
-call_name_table = (codes "wake", names.Wake) ∷ (codes "kill", names.Kill) ∷ (codes "post", names.Post) ∷ (codes "get", names.Get) ∷ (codes "draw", names.Draw) ∷ (codes "take", names.Take) ∷ (codes "drop", names.DropRun) ∷ (codes "retire", names.Retire) ∷ []
-
--- the name of a call
-abbrev pub call_name : List ℕ → Option CallName
-call_name = one_of call_name_table
-
--- the words for whether a run came to rest
-abbrev pub at_rest_table : List (List ℕ × Bool)
-at_rest_table = (codes "rest", true) ∷ (codes "limit", false) ∷ []
-
--- whether a run came to rest
-abbrev pub at_rest : List ℕ → Option Bool
-at_rest = one_of at_rest_table
-
--- the task of a number
-abbrev pub task : ℕ → TaskId
-task n = record { 0 = n }
+-- the value, where no word is left
+abbrev pub at_end : {A : Type 0} → List Word → A → Option A
+at_end ws x = only_if (is_empty ws) x
 
 -- what a call saw of its task
-abbrev pub seen : List (List ℕ) → Option Seen
-seen (w ∷ []) = do
-  _ ← is (codes "gone") w
-  Some seens.Gone
-seen (s ∷ p ∷ k ∷ n ∷ []) = do
-  s ← stand s
-  p ← pending p
-  k ← flag k
-  n ← takes_number n
-  Some (seens.Live s p k n)
-seen ws = None
+abbrev pub seen_in : List Word → Option Seen
+seen_in ws = part_at seen_row seen_names ws >>= (λ p. at_end p.rest (seen_of p.kind p.values))
 
--- the number of a task, and what a call saw of it
-abbrev pub sees : List (List ℕ) → Option (TaskId × Seen)
-sees [] = None
-sees (i ∷ more) = do
-  i ← small i
-  s ← seen more
-  Some (task i, s)
-
--- a task's number, reasons, and what a wake saw
-abbrev pub wake : List (List ℕ) → Option (Call × Reply)
-wake (i ∷ f ∷ more) = do
-  i ← small i
-  f ← reasons f
-  s ← seen more
-  Some (calls.Wake (task i) f, replies.Task s)
-wake ws = None
-
--- a task's number, and that of a box
-abbrev pub post : List (List ℕ) → Option (Call × Reply)
-post (i ∷ b ∷ []) = do
-  i ← small i
-  b ← small b
-  Some (calls.Post (task i) b, replies.Done)
-post ws = None
-
--- a group's number, and the tasks that were taken
-abbrev pub get : List (List ℕ) → Option (Call × Reply)
-get (g ∷ m ∷ []) = do
-  g ← small g
-  m ← hex m
-  Some (calls.Get g, replies.Group m)
-get ws = None
-
--- the number of a task that is drawn
-abbrev pub draw : List (List ℕ) → Option (Call × Reply)
-draw (i ∷ []) = do
-  i ← small i
-  Some (calls.Draw (task i), replies.Done)
-draw ws = None
-
--- a call on a task, and what it saw
-abbrev pub told : (TaskId → Call) → Option (TaskId × Seen) → Option (Call × Reply)
-told made o = do
-  s ← o
-  Some (made s.0, replies.Task s.1)
-
--- a call and its answer, by the words behind the call's name
-abbrev pub call : CallName → List (List ℕ) → Option (Call × Reply)
-call names.Wake ws = wake ws
-call names.Post ws = post ws
-call names.Get ws = get ws
-call names.Draw ws = draw ws
-call names.Kill ws = told calls.Kill (sees ws)
-call names.Take ws = told calls.Take (sees ws)
-call names.DropRun ws = told calls.DropRun (sees ws)
-call names.Retire ws = told calls.Retire (sees ws)
+-- the answer to a call
+abbrev pub reply_in : Answer → List Word → Option Reply
+reply_in answers.Seen ws = seen_in ws >>= (λ s. Some (replies.Task s))
+reply_in answers.Group ws = front mask_slots ws >>= (λ r. at_end r.1 (replies.Group (number_at r.0 0)))
+reply_in answers.Nothing ws = at_end ws replies.Done
 
 -- the letter c, and the caller's number
-abbrev pub caller_number : List ℕ → Option ℕ
-caller_number [] = None
-caller_number (c ∷ w) = do
-  _ ← is (codes "c") (c ∷ [])
-  small w
+abbrev pub caller_in : Word → Option ℕ
+caller_in [] = None
+caller_in (c ∷ w) = if c == 99 then number 4294967295 w else None
 
--- the first line
-abbrev pub first_line : List (List ℕ) → Option Said
-first_line (a ∷ b ∷ []) = do
-  _ ← is (codes "taskrun") a
-  _ ← is (codes "1") b
-  Some First
-first_line ws = None
+-- the entry of a caller: the call, and the answer
+abbrev pub entry_of : ℕ → List Word → Option Said
+entry_of k ws =
+    part_at call_row call_names ws >>= (λ p. reply_in (answer_of p.kind) p.rest >>= (λ r. Some (Holds (lines.Entry (record { caller = record { 0 = k }; call = call_of p.kind p.values; reply = r })))))
 
--- the line of a round
-abbrev pub round_line : List (List ℕ) → Option Said
-round_line (a ∷ n ∷ b ∷ t ∷ []) = do
-  _ ← is (codes "round") a
-  n ← small n
-  _ ← is (codes "tick") b
-  t ← small t
-  Some (Holds (lines.Round n t))
-round_line ws = None
+-- an entry: the caller, the call, and the answer
+abbrev pub entry_in : List Word → Option Said
+entry_in [] = None
+entry_in (w ∷ ws) = caller_in w >>= (λ k. entry_of k ws)
 
--- the line of an entry
-abbrev pub entry_line : List (List ℕ) → Option Said
-entry_line (k ∷ o ∷ more) = do
-  k ← caller_number k
-  o ← call_name o
-  c ← call o more
-  Some (Holds (lines.Entry (record { caller = record { 0 = k }; call = c.0; reply = c.1 })))
-entry_line ws = None
-
--- the end line
-abbrev pub end_line : List (List ℕ) → Option Said
-end_line (a ∷ r ∷ n ∷ []) = do
-  _ ← is (codes "end") a
-  r ← at_rest r
-  n ← small n
-  Some (Holds (lines.End r n))
-end_line ws = None
-
--- the first of two values that is there
-abbrev pub or_else : {A : Type 0} → Option A → Option A → Option A
-or_else None o = o
-or_else (Some x) o = Some x
+-- another line
+abbrev pub plain_in : List Word → Option Said
+plain_in ws = part_at line_row line_names ws >>= (λ p. at_end p.rest (line_of p.kind p.values))
 
 -- what words say
-abbrev pub said_by : List (List ℕ) → Option Said
-said_by ws = or_else (first_line ws) (or_else (round_line ws) (or_else (entry_line ws) (end_line ws)))
+abbrev pub said_by : List Word → Option Said
+said_by ws = entry_in ws or_else plain_in ws
 
 -- what a line says: its words are parted by single spaces
 unfoldable pub said : List ℕ → Option Said

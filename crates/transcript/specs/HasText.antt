@@ -1,6 +1,5 @@
--- Which entries, lines and runs have a text (docs/TRANSCRIPT.md, "What has a text").
-use Rattle.std.specs.Prelude.{◌<◌, ◌^◌, length}
-use Rattle.std.specs.List.{AllByRecursion}
+-- Which entries and lines have a text (docs/TRANSCRIPT.md, "What has a text").
+use Rattle.std.specs.Prelude.{◌<◌, ◌^◌}
 use Rattle.task_machine.specs.declared.task.Seen.{Seen}
 use Rattle.task_machine.specs.declared.task.Seen.TheVariants as seen
 use Rattle.task_machine.specs.declared.calls.Call.{Call}
@@ -8,10 +7,8 @@ use Rattle.task_machine.specs.declared.calls.Call.TheVariants as call
 use Rattle.task_machine.specs.declared.calls.Reply.{Reply}
 use Rattle.task_machine.specs.declared.calls.Reply.TheVariants as reply
 use Rattle.task_machine.specs.declared.calls.Entry.{Entry}
-use Rattle.run_model.specs.Run.{Run}
 use Rattle.transcript.specs.declared.lines.Line.{Line}
 use Rattle.transcript.specs.declared.lines.Line.TheVariants as line
-use Rattle.transcript.specs.RunLines.{lines_of_run}
 
 -- the takes that a call saw are below 2 ^ 48
 abbrev pub HasTextSeen : Seen → Type 0
@@ -78,8 +75,3 @@ abbrev pub HasTextLine : Line → Type 0
 HasTextLine (line.Round number tick) = (number < 2 ^ 32) × (tick < 2 ^ 32)
 HasTextLine (line.Entry e) = FitsEntry e × HasTextEntry e
 HasTextLine (line.End rest last) = last < 2 ^ 32
-
--- a run that has a text: there is a round, and each of its lines has a text
-pub record HasText (run : Run) : Type 0 where
-  pub begun : 0 < length run.rounds
-  pub lines : AllByRecursion HasTextLine (lines_of_run run)

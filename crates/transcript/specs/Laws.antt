@@ -1,34 +1,27 @@
--- What is promised of the text of a run (docs/TRANSCRIPT.md, "Laws").
-use Rattle.std.specs.Prelude.{◌≡◌, ℕ, ◌+◌, ◌-◌, ◌≤◌, ◌<◌, suc, List, ◌++◌, length, take, Ok}
-use Rattle.run_model.specs.Run.{Round, Run}
+-- What is promised of transcripts: docs/TRANSCRIPT.md, "Laws".
+use Rattle.std.specs.Prelude.{◌≡◌, ℕ, ◌≤◌, ◌<◌, suc, false, List, length, take, Ok}
+use Rattle.std.specs.List.{AllByRecursion}
 use Rattle.transcript.specs.declared.lines.Line.{Line}
-use Rattle.transcript.specs.RunLines.{lines_of_run}
-use Rattle.transcript.specs.HasText.{HasText}
-use Rattle.transcript.specs.Spelling.{text_of, head_text, rounds_text, end_text}
-use Rattle.transcript.specs.Judging.{lines_of, run_of, run_within}
-use Rattle.transcript.specs.Front.{Front}
-use Rattle.step_tables.specs.declared.tables.Script.{Script}
-use Rattle.run_model.specs.Lawful.{LawfulRun}
+use Rattle.transcript.specs.HasText.{HasTextLine}
+use Rattle.transcript.specs.Spelling.{lines_text}
+use Rattle.transcript.specs.Judging.{byte_limit, lines_of, run_of, run_within, GoesOn}
 
--- the text of a run is the first line, the rounds from round 0 on, and the end line
-abbrev pub TextInPieces : Type 0
-TextInPieces = (run : Run) → text_of run ≡ head_text ++ (rounds_text 0 run.rounds ++ end_text run.rest (length run.rounds - 1))
+-- lines that are those of a transcript: they follow one another, and each has a text
+pub record AreLines (ls : List Line) : Type 0 where
+  pub order : GoesOn 0 false ls
+  pub texts : AllByRecursion HasTextLine ls
 
--- rounds are written one after another
-abbrev pub RoundsInTurn : Type 0
-RoundsInTurn = (r : ℕ) (xs ys : List Round) → rounds_text r (xs ++ ys) ≡ rounds_text r xs ++ rounds_text (r + length xs) ys
+-- the text of lines that go on is read as these lines
+abbrev pub LinesReadBack : Type 0
+LinesReadBack = (ls : List Line) → AreLines ls → lines_of (lines_text ls) ≡ Ok ls
 
--- the text of a run that has one is read as the lines of that run
-abbrev pub ReadsBack : Type 0
-ReadsBack = (run : Run) → HasText run → lines_of (text_of run) ≡ Ok (lines_of_run run)
-
--- bytes that are read are the text of a run that has these lines
-abbrev pub WritesBack : Type 0
-WritesBack = (bytes : List ℕ) (ls : List Line) → lines_of bytes ≡ Ok ls → (run : Run) × HasText run × (lines_of_run run ≡ ls) × (bytes ≡ text_of run)
+-- bytes that are read as lines are their text, and these lines go on
+abbrev pub LinesWriteBack : Type 0
+LinesWriteBack = (bytes : List ℕ) (ls : List Line) → lines_of bytes ≡ Ok ls → AreLines ls × (bytes ≡ lines_text ls)
 
 -- a text of at most 64 MiB is read as if there was no limit
 abbrev pub ShortTextsAreWhole : Type 0
-ShortTextsAreWhole = (bytes : List ℕ) → length bytes ≤ 67108864 → run_of bytes ≡ lines_of bytes
+ShortTextsAreWhole = (bytes : List ℕ) → length bytes ≤ byte_limit → run_of bytes ≡ lines_of bytes
 
 -- what is read under the limit is read without it
 abbrev pub LimitOnlyRefuses : Type 0
@@ -37,11 +30,3 @@ LimitOnlyRefuses = (bytes : List ℕ) (ls : List Line) → run_of bytes ≡ Ok l
 -- of a text that is too long, only the bytes up to the one behind the limit count
 abbrev pub LongTextsAreCut : Type 0
 LongTextsAreCut = (most : ℕ) (bytes : List ℕ) → most < length bytes → run_within most bytes ≡ run_within most (take (suc most) bytes)
-
--- lines in front of a front are a front
-abbrev pub FrontsBegin : Type 0
-FrontsBegin = (script : Script) (xs ys : List Line) → Front script (xs ++ ys) → Front script xs
-
--- the lines of a lawful run are a front
-abbrev pub LawfulRunsAreFronts : Type 0
-LawfulRunsAreFronts = (script : Script) (run : Run) → LawfulRun script run → Front script (lines_of_run run)

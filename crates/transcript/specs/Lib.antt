@@ -1,9 +1,6 @@
-pub mod RunLines
+pub mod Tables
 pub mod Spelling
 pub mod HasText
-pub mod Laws
-pub mod Added
 pub mod Grammar
 pub mod Judging
-pub mod Taken
-pub mod Front
+pub mod Laws

@@ -1,238 +1,273 @@
 //! What the words of a line say.
 
-ghost use Rattle.std.specs.Prelude.{◌≡◌, ◌∷◌, [], map, IfOk};
-ghost use Rattle.transcript.specs.Grammar.{pieces, seen, sees, wake, post, get, draw, call, caller_number, first_line, round_line, entry_line, end_line, said_by, said};
+ghost use Rattle.std.specs.Prelude.{◌≡◌, ◌==◌, option_map};
+ghost use Rattle.text_lines.specs.Pieces.{words_in};
+ghost use Rattle.text_lines.specs.Numbers.{number};
+ghost use Rattle.text_lines.specs.Slots.{values_of, small_at, number_at, reasons_at, index_at};
+ghost use Rattle.text_lines.specs.Shapes.{kind_named, part_of, part_at};
+ghost use Rattle.transcript.specs.Tables.{call_row, call_names, seen_row, seen_names, line_row, line_names};
+ghost use Rattle.transcript.specs.Grammar.{call_of, seen_of, line_of, seen_in, reply_in, caller_in, entry_of, entry_in, plain_in, said_by, said};
 
 use crate::lines::Line;
-use crate::numerals::{hex, small, takes_number};
-use crate::reason_words::{pending, reasons};
-use crate::shape::{CallName, Said};
-use crate::tables::{at_rest, call_name, flag, is, stand};
+use crate::shape::{Answer, CallName, LineName, Said, SeenName, mask_slots};
 use sched_base::{CallerId, TaskId};
-use std::alloc::{AllocError, Global};
-use task_machine::{Call, Entry, Reply, Seen};
+use task_machine::{Call, Entry, Reply, Seen, Stand};
+use text_lines::{Value, Values, Words, front, index_at, number, number_at, reasons_at, small_at};
 
 /// What a line says: its words are parted by single spaces.
-///
-/// # Errors
-///
-/// Where there is no memory.
 #[tactic(auto, unfolding(crate::specs::Grammar::said))]
-pub(crate) fn said(alloc: Global, text: &[u8]) -> Result<Option<Said>, AllocError>
-    ensures { IfOk result (λ s. s ≡ said text.now) }
+pub(crate) fn said(text: &[u8]) -> Option<Said>
+    ensures { result ≡ said text.now }
 {
-    let words = cut(alloc, text)?;
-    Ok(said_by(&words))
-}
-
-/// The words of a line.
-fn cut(alloc: Global, text: &[u8]) -> Result<Vec<&[u8]>, AllocError>
-    ensures { IfOk result (λ v. map (λ w. w.now) v.items ≡ pieces 32 text.now) }
-{
-    text.split(|byte| *byte == b' ').collect(alloc)
+    said_by(Words::of(text))
 }
 
 /// What words say.
-fn said_by(words: &[&[u8]]) -> Option<Said>
-    ensures { result ≡ said_by (map (λ w. w.now) words.now) }
+fn said_by(words: Words<'_>) -> Option<Said>
+    ensures { result ≡ said_by (words_in words.entry) }
 {
-    if let Some(line) = first_line(words) {
-        return Some(line);
+    match entry_in(words) {
+        Some(said) => Some(said),
+        None => plain_in(words),
     }
-    if let Some(line) = round_line(words) {
-        return Some(line);
+}
+
+/// The call of this name.
+fn call_named(word: &[u8]) -> Option<CallName>
+    ensures { result ≡ kind_named call_row call_names word.now }
+{
+    match word {
+        b"wake" => Some(CallName::Wake),
+        b"kill" => Some(CallName::Kill),
+        b"post" => Some(CallName::Post),
+        b"get" => Some(CallName::Get),
+        b"draw" => Some(CallName::Draw),
+        b"take" => Some(CallName::Take),
+        b"drop" => Some(CallName::DropRun),
+        b"retire" => Some(CallName::Retire),
+        _ => None,
     }
-    if let Some(line) = entry_line(words) {
-        return Some(line);
+}
+
+/// What this word tells that a call saw.
+fn seen_named(word: &[u8]) -> Option<SeenName>
+    ensures { result ≡ kind_named seen_row seen_names word.now }
+{
+    match word {
+        b"gone" => Some(SeenName::Gone),
+        b"rest" => Some(SeenName::Rest),
+        b"queued" => Some(SeenName::Queued),
+        b"runs" => Some(SeenName::Runs),
+        _ => None,
     }
-    end_line(words)
 }
 
-/// The first line.
-fn first_line(words: &[&[u8]]) -> Option<Said>
-    ensures { result ≡ first_line (map (λ w. w.now) words.now) }
+/// The line, not an entry, with this first word.
+fn line_named(word: &[u8]) -> Option<LineName>
+    ensures { result ≡ kind_named line_row line_names word.now }
 {
-    let [name, version] = words else {
-        return None;
-    };
-    is(b"taskrun", name)?;
-    is(b"1", version)?;
-    Some(Said::First)
+    match word {
+        b"taskrun" => Some(LineName::First),
+        b"round" => Some(LineName::Round),
+        b"end" => Some(LineName::End),
+        _ => None,
+    }
 }
 
-/// The line of a round.
-fn round_line(words: &[&[u8]]) -> Option<Said>
-    ensures { result ≡ round_line (map (λ w. w.now) words.now) }
+/// The call of these values.
+fn call_of(name: CallName, values: &[Value<'_>]) -> Call
+    ensures { result ≡ call_of name (values_of values.now) }
 {
-    let [name, number, tick_name, tick] = words else {
-        return None;
-    };
-    is(b"round", name)?;
-    let number = small(number)?;
-    is(b"tick", tick_name)?;
-    let tick = small(tick)?;
-    Some(Said::Holds(Line::Round { number, tick }))
+    let first = small_at(values, 0);
+    match name {
+        CallName::Wake => Call::Wake(TaskId(first), reasons_at(values, 1)),
+        CallName::Kill => Call::Kill(TaskId(first)),
+        CallName::Post => Call::Post(TaskId(first), small_at(values, 1)),
+        CallName::Get => Call::Get(first),
+        CallName::Draw => Call::Draw(TaskId(first)),
+        CallName::Take => Call::Take(TaskId(first)),
+        CallName::DropRun => Call::DropRun(TaskId(first)),
+        CallName::Retire => Call::Retire(TaskId(first)),
+    }
 }
 
-/// The end line.
-fn end_line(words: &[&[u8]]) -> Option<Said>
-    ensures { result ≡ end_line (map (λ w. w.now) words.now) }
+/// What a call saw of a task that stands there, by these values.
+fn live(stand: Stand, values: &[Value<'_>]) -> Seen
+    ensures { result ≡ Seen.Live stand (reasons_at (values_of values.now) 0) (index_at (values_of values.now) 1 == 1) (number_at (values_of values.now) 2) }
 {
-    let [name, rest, last] = words else {
-        return None;
-    };
-    is(b"end", name)?;
-    let rest = at_rest(rest)?;
-    let last = small(last)?;
-    Some(Said::Holds(Line::End { rest, last }))
+    Seen::Live {
+        stand,
+        pending: reasons_at(values, 0),
+        killed: index_at(values, 1) == 1,
+        takes: number_at(values, 2),
+    }
 }
 
-/// The line of an entry.
-fn entry_line(words: &[&[u8]]) -> Option<Said>
-    ensures { result ≡ entry_line (map (λ w. w.now) words.now) }
+/// What a call saw, by these values.
+fn seen_of(name: SeenName, values: &[Value<'_>]) -> Seen
+    ensures { result ≡ seen_of name (values_of values.now) }
 {
-    let [caller, name, more @ ..] = words else {
-        return None;
-    };
-    let caller = caller_number(caller)?;
-    let name = call_name(name)?;
-    let (call, reply) = call(name, more)?;
-    Some(Said::Holds(Line::Entry(Entry {
-        caller: CallerId(caller),
-        call,
-        reply,
-    })))
+    match name {
+        SeenName::Gone => Seen::Gone,
+        SeenName::Rest => live(Stand::Rest, values),
+        SeenName::Queued => live(Stand::Queued, values),
+        SeenName::Runs => live(Stand::Runs, values),
+    }
+}
+
+/// The line of these values.
+fn line_of(name: LineName, values: &[Value<'_>]) -> Said
+    ensures { result ≡ line_of name (values_of values.now) }
+{
+    match name {
+        LineName::First => Said::First,
+        LineName::Round => Said::Holds(Line::Round {
+            number: small_at(values, 0),
+            tick: small_at(values, 1),
+        }),
+        LineName::End => Said::Holds(Line::End {
+            rest: index_at(values, 0) == 0,
+            last: small_at(values, 1),
+        }),
+    }
+}
+
+/// The call that stands first, its values, and the words behind it.
+fn call_at<'a>(words: Words<'a>) -> Option<(CallName, Values<'a>, Words<'a>)>
+    ensures { option_map (λ p. part_of p.0 (values_of p.1.items) (words_in p.2)) result ≡ part_at call_row call_names (words_in words.entry) }
+{
+    let (word, rest) = words.first()?;
+    let name = call_named(word)?;
+    match front(name.row().slots, rest) {
+        Some((values, rest)) => Some((name, values, rest)),
+        None => None,
+    }
+}
+
+/// What was seen that stands first, its values, and the words behind it.
+fn seen_at<'a>(words: Words<'a>) -> Option<(SeenName, Values<'a>, Words<'a>)>
+    ensures { option_map (λ p. part_of p.0 (values_of p.1.items) (words_in p.2)) result ≡ part_at seen_row seen_names (words_in words.entry) }
+{
+    let (word, rest) = words.first()?;
+    let name = seen_named(word)?;
+    match front(name.row().slots, rest) {
+        Some((values, rest)) => Some((name, values, rest)),
+        None => None,
+    }
+}
+
+/// The line, not an entry, that stands first, its values, and the words behind it.
+fn line_at<'a>(words: Words<'a>) -> Option<(LineName, Values<'a>, Words<'a>)>
+    ensures { option_map (λ p. part_of p.0 (values_of p.1.items) (words_in p.2)) result ≡ part_at line_row line_names (words_in words.entry) }
+{
+    let (word, rest) = words.first()?;
+    let name = line_named(word)?;
+    match front(name.row().slots, rest) {
+        Some((values, rest)) => Some((name, values, rest)),
+        None => None,
+    }
+}
+
+/// What a call saw of its task, with no word behind it.
+fn seen_in(words: Words<'_>) -> Option<Seen>
+    ensures { result ≡ seen_in (words_in words.entry) }
+{
+    match seen_at(words) {
+        Some((name, values, rest)) => {
+            if rest.is_at_end() {
+                Some(seen_of(name, &values))
+            } else {
+                None
+            }
+        }
+        None => None,
+    }
+}
+
+/// The tasks of a group that a get took, with no word behind them.
+fn group_in(words: Words<'_>) -> Option<Reply>
+    ensures { result ≡ reply_in Answer.Group (words_in words.entry) }
+{
+    match front(mask_slots(), words) {
+        Some((values, rest)) => {
+            if rest.is_at_end() {
+                Some(Reply::Group(number_at(&values, 0)))
+            } else {
+                None
+            }
+        }
+        None => None,
+    }
+}
+
+/// The answer to a call.
+fn reply_in(answer: Answer, words: Words<'_>) -> Option<Reply>
+    ensures { result ≡ reply_in answer (words_in words.entry) }
+{
+    match answer {
+        Answer::Seen => Some(Reply::Task(seen_in(words)?)),
+        Answer::Group => group_in(words),
+        Answer::Nothing => {
+            if words.is_at_end() {
+                Some(Reply::Done)
+            } else {
+                None
+            }
+        }
+    }
 }
 
 /// The letter c, and the caller's number.
-fn caller_number(word: &[u8]) -> Option<u32>
-    ensures { result ≡ caller_number word.now }
+fn caller_in(word: &[u8]) -> Option<u32>
+    ensures { result ≡ caller_in word.now }
 {
     match word {
-        [b'c', number @ ..] => small(number),
+        [b'c', digits @ ..] => match number(digits, 4_294_967_295) {
+            Some(value) => Some(value as u32),
+            None => None,
+        },
         _ => None,
     }
 }
 
-/// A call and its answer, by the words behind the call's name.
-fn call(name: CallName, words: &[&[u8]]) -> Option<(Call, Reply)>
-    ensures { result ≡ call name (map (λ w. w.now) words.now) }
+/// The entry of a caller: the call, and the answer.
+fn entry_of(caller: u32, words: Words<'_>) -> Option<Said>
+    ensures { result ≡ entry_of caller (words_in words.entry) }
 {
-    match name {
-        CallName::Wake => wake(words),
-        CallName::Post => post(words),
-        CallName::Get => get(words),
-        CallName::Draw => draw(words),
-        CallName::Kill => {
-            let (task, seen) = sees(words)?;
-            Some((Call::Kill(task), Reply::Task(seen)))
+    match call_at(words) {
+        Some((name, values, rest)) => {
+            let reply = reply_in(name.answer(), rest)?;
+            Some(Said::Holds(Line::Entry(Entry {
+                caller: CallerId(caller),
+                call: call_of(name, &values),
+                reply,
+            })))
         }
-        CallName::Take => {
-            let (task, seen) = sees(words)?;
-            Some((Call::Take(task), Reply::Task(seen)))
-        }
-        CallName::DropRun => {
-            let (task, seen) = sees(words)?;
-            Some((Call::DropRun(task), Reply::Task(seen)))
-        }
-        CallName::Retire => {
-            let (task, seen) = sees(words)?;
-            Some((Call::Retire(task), Reply::Task(seen)))
-        }
+        None => None,
     }
 }
 
-/// A task, reasons, and what a wake saw.
-fn wake(words: &[&[u8]]) -> Option<(Call, Reply)>
-    ensures { result ≡ wake (map (λ w. w.now) words.now) }
+/// An entry: the caller, the call, and the answer.
+fn entry_in(words: Words<'_>) -> Option<Said>
+    ensures { result ≡ entry_in (words_in words.entry) }
 {
-    let [task, bits, more @ ..] = words else {
-        return None;
-    };
-    let task = small(task)?;
-    let bits = reasons(bits)?;
-    let seen = seen(more)?;
-    Some((Call::Wake(TaskId(task), bits), Reply::Task(seen)))
+    let (word, rest) = words.first()?;
+    let caller = caller_in(word)?;
+    entry_of(caller, rest)
 }
 
-/// A task and a box.
-fn post(words: &[&[u8]]) -> Option<(Call, Reply)>
-    ensures { result ≡ post (map (λ w. w.now) words.now) }
+/// Another line.
+fn plain_in(words: Words<'_>) -> Option<Said>
+    ensures { result ≡ plain_in (words_in words.entry) }
 {
-    let [task, place] = words else {
-        return None;
-    };
-    let task = small(task)?;
-    let place = small(place)?;
-    Some((Call::Post(TaskId(task), place), Reply::Done))
-}
-
-/// A group, and the tasks that were taken.
-fn get(words: &[&[u8]]) -> Option<(Call, Reply)>
-    ensures { result ≡ get (map (λ w. w.now) words.now) }
-{
-    let [group, mask] = words else {
-        return None;
-    };
-    let group = small(group)?;
-    let mask = hex(mask)?;
-    Some((Call::Get(group), Reply::Group(mask)))
-}
-
-/// A task that is drawn.
-fn draw(words: &[&[u8]]) -> Option<(Call, Reply)>
-    ensures { result ≡ draw (map (λ w. w.now) words.now) }
-{
-    let [task] = words else {
-        return None;
-    };
-    let task = small(task)?;
-    Some((Call::Draw(TaskId(task)), Reply::Done))
-}
-
-/// A task, and what a call saw of it.
-fn sees(words: &[&[u8]]) -> Option<(TaskId, Seen)>
-    ensures { result ≡ sees (map (λ w. w.now) words.now) }
-{
-    let [task, more @ ..] = words else {
-        return None;
-    };
-    let task = small(task)?;
-    let seen = seen(more)?;
-    Some((TaskId(task), seen))
-}
-
-/// What a call saw of its task.
-fn seen(words: &[&[u8]]) -> Option<Seen>
-    ensures { result ≡ seen (map (λ w. w.now) words.now) }
-{
-    match words {
-        [word] => gone(word),
-        [place, bits, fate, takes] => live(place, bits, fate, takes),
-        _ => None,
+    match line_at(words) {
+        Some((name, values, rest)) => {
+            if rest.is_at_end() {
+                Some(line_of(name, &values))
+            } else {
+                None
+            }
+        }
+        None => None,
     }
-}
-
-/// A task that is gone.
-fn gone(word: &[u8]) -> Option<Seen>
-    ensures { result ≡ seen (word.now ∷ []) }
-{
-    is(b"gone", word)?;
-    Some(Seen::Gone)
-}
-
-/// A task that lives.
-fn live(place: &[u8], bits: &[u8], fate: &[u8], takes: &[u8]) -> Option<Seen>
-    ensures { result ≡ seen (place.now ∷ bits.now ∷ fate.now ∷ takes.now ∷ []) }
-{
-    let stand = stand(place)?;
-    let pending = pending(bits)?;
-    let killed = flag(fate)?;
-    let takes = takes_number(takes)?;
-    Some(Seen::Live {
-        stand,
-        pending,
-        killed,
-        takes,
-    })
 }

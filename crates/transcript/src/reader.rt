@@ -1,15 +1,16 @@
 //! The reader: a text is judged line by line, up to its first bad line.
 
-ghost use Rattle.std.specs.Prelude.{◌≡◌, ◌+◌, ◌<◌, ◌++◌, ◌^◌, ◌==◌, IfOk, OnOk, count_by};
-ghost use Rattle.transcript.specs.Judging.{Gives, TakesIn, closed, follows, held, is_line, judged, judged_said, line_over, may_stand, past, run_within, with_front};
+ghost use Rattle.std.specs.Prelude.{◌≡◌, ◌+◌, ◌<◌, ◌^◌, OnOk};
+ghost use Rattle.text_lines.specs.Lines.{line_taken, closed, at_line};
+ghost use Rattle.transcript.specs.Judging.{Gives, Takes, fault, lines_read, judged_said, follows, is_end, rounds_with, may_stand, past, opening, run_within, transcripts};
 
-use crate::faults::{TextError, TextFault};
+use crate::faults::{FaultKind, TextError, TextFault};
 use crate::lines::Line;
-use crate::parts::next_piece;
 use crate::phrases::said;
 use crate::shape::{Progress, Said};
 use crate::transcripts::Transcript;
 use std::alloc::{AllocError, Global};
+use text_lines::{is_line, line_over, next_piece};
 
 /// The lines of a text of at most `most` bytes.
 pub(crate) fn read_within(alloc: Global, most: usize, bytes: &[u8]) -> Result<Transcript, TextError>
@@ -17,142 +18,121 @@ pub(crate) fn read_within(alloc: Global, most: usize, bytes: &[u8]) -> Result<Tr
     ensures { Gives result (run_within most bytes.now) }
 {
     let over = line_over(most, bytes);
-    let mut lines = Vec::new(alloc);
-    let mut progress = Progress::OPENING;
+    let mut progress = Progress::opening(alloc);
     let mut number: u32 = 1;
     let mut rest = bytes;
     loop {
         let (text, behind) = next_piece(b'\n', rest);
         let Some(next) = behind else {
-            return close(over, number, &progress, text, lines);
+            return progress.close(over, number, text);
         };
-        take_in(alloc, over, number, &mut progress, &mut lines, text)?;
+        progress.take_line(over, number, text)?;
         rest = next;
         number += 1;
     }
 }
 
-/// The line in which the byte behind the first `most` bytes stands.
-fn line_over(most: usize, bytes: &[u8]) -> Option<u32>
-    requires { most + 2 < 2 ^ 32 }
-    ensures { result ≡ line_over most bytes.now }
+/// The fault of a line.
+fn refuse<T>(line: u32, kind: FaultKind) -> Result<T, TextError>
+    ensures { result ≡ Err (TextError.Refused (fault (line, kind))) }
 {
-    if bytes.len() <= most {
-        None
-    } else {
-        Some(1 + feeds(&bytes[..most]) as u32)
-    }
+    Err(TextError::Refused(TextFault {
+        line,
+        kind: kind.number(),
+    }))
 }
 
-/// How many line feeds a text has.
-fn feeds(bytes: &[u8]) -> usize
-    ensures { result ≡ count_by (λ b. b == 10) bytes.now }
-{
-    bytes.iter().filter(|byte| **byte == b'\n').count()
-}
-
-/// Takes in a whole line.
-fn take_in(
-    alloc: Global,
-    over: Option<u32>,
-    number: u32,
-    progress: &mut Progress,
-    lines: &mut Vec<Line>,
-    text: &[u8],
-) -> Result<(), TextError>
-    requires { progress.old.rounds < 2 ^ 32 }
-    ensures { let verdict = judged over number progress.old text.now in
-        TakesIn result verdict number progress.old progress.new lines.old.items lines.new.items }
-{
-    match judge(alloc, over, number, progress, text) {
-        Ok(verdict) => take_verdict(number, progress, lines, verdict),
-        Err(error) => Err(TextError::from(error)),
-    }
-}
-
-/// Takes in what was judged of a line.
-fn take_verdict(
-    number: u32,
-    progress: &mut Progress,
-    lines: &mut Vec<Line>,
-    verdict: Result<Said, u8>,
-) -> Result<(), TextError>
-    requires { progress.old.rounds < 2 ^ 32 }
-    ensures { TakesIn result verdict number progress.old progress.new lines.old.items lines.new.items }
-{
-    match verdict {
-        Ok(said) => {
-            take_said(progress, lines, &said)?;
-            Ok(())
+impl Progress {
+    /// Before the first line.
+    fn opening(alloc: Global) -> Progress
+        ensures { result ≡ opening }
+    {
+        Progress {
+            begun: false,
+            rounds: 0,
+            ended: false,
+            lines: Transcript::new(alloc),
         }
-        Err(kind) => Err(TextError::Refused(TextFault { line: number, kind })),
     }
-}
 
-/// Takes in what a line says.
-fn take_said(progress: &mut Progress, lines: &mut Vec<Line>, said: &Said) -> Result<(), AllocError>
-    requires { progress.old.rounds < 2 ^ 32 }
-    ensures { OnOk result ((progress.new ≡ past progress.old said.now) × (lines.new.items ≡ lines.old.items ++ held said.now)) }
-{
-    keep(lines, said)?;
-    *progress = past(progress, said);
-    Ok(())
-}
-
-/// What a whole line says, or the kind of its fault.
-#[tactic(auto, unfolding(crate::specs::Judging::judged))]
-fn judge(
-    alloc: Global,
-    over: Option<u32>,
-    number: u32,
-    progress: &Progress,
-    text: &[u8],
-) -> Result<Result<Said, u8>, AllocError>
-    ensures { IfOk result (λ v. v ≡ judged over number progress.now text.now) }
-{
-    if progress.ended {
-        return Ok(Err(2));
+    /// Takes a whole line, or answers its fault.
+    #[tactic(auto, unfolding(text_lines::specs::Lines::line_taken))]
+    fn take_line(&mut self, over: Option<u32>, number: u32, text: &[u8]) -> Result<(), TextError>
+        requires { self.old.rounds < 2 ^ 32 }
+        ensures { Takes result self.new (line_taken transcripts over number self.old text.now) }
+    {
+        if self.ended {
+            return refuse(number, FaultKind::Order);
+        }
+        if is_line(over, number) {
+            return refuse(number, FaultKind::LimitPassed);
+        }
+        match said(text) {
+            Some(said) => self.take_said(number, &said),
+            None => refuse(number, FaultKind::Line),
+        }
     }
-    if is_line(number, over) {
-        return Ok(Err(4));
-    }
-    let said = said(alloc, text)?;
-    Ok(judge_said(progress, said))
-}
 
-/// Whether a line is the one at which the text passes its limit.
-fn is_line(number: u32, over: Option<u32>) -> bool
-    ensures { result ≡ is_line number over }
-{
-    match over {
-        Some(line) => number == line,
-        None => false,
+    /// Takes what a line says, or answers its fault.
+    fn take_said(&mut self, number: u32, said: &Said) -> Result<(), TextError>
+        requires { self.old.rounds < 2 ^ 32 }
+        ensures { Takes result self.new (at_line number (judged_said self.old (Some said.now))) }
+    {
+        if !self.may_stand(said) {
+            return refuse(number, FaultKind::Order);
+        }
+        self.add(said)?;
+        Ok(())
     }
-}
 
-/// What a line says, or the kind of its fault.
-fn judge_said(progress: &Progress, said: Option<Said>) -> Result<Said, u8>
-    ensures { result ≡ judged_said progress.now said }
-{
-    match said {
-        Some(said) => {
-            if may_stand(progress, &said) {
-                Ok(said)
-            } else {
-                Err(2)
+    /// Whether a line may stand next.
+    fn may_stand(&self, said: &Said) -> bool
+        ensures { result ≡ may_stand self.now said.now }
+    {
+        match said {
+            Said::First => !self.begun,
+            Said::Holds(line) => self.begun && follows(self.rounds, line),
+        }
+    }
+
+    /// Adds what a good line says.
+    fn add(&mut self, said: &Said) -> Result<(), AllocError>
+        requires { self.old.rounds < 2 ^ 32 }
+        ensures { OnOk result (self.new ≡ past self.old said.now) }
+    {
+        match said {
+            Said::First => {
+                self.begun = true;
+                Ok(())
+            }
+            Said::Holds(line) => {
+                self.lines.push(line)?;
+                self.rounds = rounds_with(self.rounds, line);
+                self.ended = is_end(line);
+                Ok(())
             }
         }
-        None => Err(1),
     }
-}
 
-/// Whether a line may stand next.
-fn may_stand(progress: &Progress, said: &Said) -> bool
-    ensures { result ≡ may_stand progress.now said.now }
-{
-    match said {
-        Said::First => !progress.begun,
-        Said::Holds(line) => progress.begun && follows(progress.rounds, line),
+    /// The lines, where the end line has come and nothing stands behind it.
+    #[tactic(auto, unfolding(text_lines::specs::Lines::closed))]
+    fn close(self, over: Option<u32>, number: u32, piece: &[u8]) -> Result<Transcript, TextError>
+        ensures { Gives result (lines_read (closed transcripts over number self piece.now)) }
+    {
+        if !self.ended {
+            return refuse(
+                number,
+                if is_line(over, number) {
+                    FaultKind::LimitPassed
+                } else {
+                    FaultKind::Truncated
+                },
+            );
+        }
+        if !piece.is_empty() {
+            return refuse(number, FaultKind::Order);
+        }
+        Ok(self.lines)
     }
 }
 
@@ -167,66 +147,23 @@ fn follows(rounds: u64, line: &Line) -> bool
     }
 }
 
-/// The progress behind a line.
-fn past(progress: &Progress, said: &Said) -> Progress
-    requires { progress.now.rounds < 2 ^ 32 }
-    ensures { result ≡ past progress.now said.now }
+/// How many rounds there are with a line.
+fn rounds_with(rounds: u64, line: &Line) -> u64
+    requires { rounds < 2 ^ 32 }
+    ensures { result ≡ rounds_with rounds line.now }
 {
-    match said {
-        Said::First => Progress {
-            begun: true,
-            ..*progress
-        },
-        Said::Holds(Line::Round { .. }) => Progress {
-            rounds: progress.rounds + 1,
-            ..*progress
-        },
-        Said::Holds(Line::Entry(_)) => *progress,
-        Said::Holds(Line::End { .. }) => Progress {
-            ended: true,
-            ..*progress
-        },
+    match line {
+        Line::Round { .. } => rounds + 1,
+        Line::Entry(_) | Line::End { .. } => rounds,
     }
 }
 
-/// Keeps a line of the run.
-fn keep(lines: &mut Vec<Line>, said: &Said) -> Result<(), AllocError>
-    ensures { OnOk result (lines.new.items ≡ lines.old.items ++ held said.now) }
+/// Whether a line is the end.
+fn is_end(line: &Line) -> bool
+    ensures { result ≡ is_end line.now }
 {
-    match said {
-        Said::First => Ok(()),
-        Said::Holds(line) => lines.extend_from_slice(&[*line]),
-    }
-}
-
-/// The answer at the end of a text: nothing may follow the last line feed.
-fn close(
-    over: Option<u32>,
-    number: u32,
-    progress: &Progress,
-    piece: &[u8],
-    lines: Vec<Line>,
-) -> Result<Transcript, TextError>
-    ensures { Gives result (with_front lines.items (closed over number progress.now piece.now)) }
-{
-    if progress.ended {
-        if piece.is_empty() {
-            Ok(Transcript::from_vec(lines))
-        } else {
-            Err(TextError::Refused(TextFault {
-                line: number,
-                kind: 2,
-            }))
-        }
-    } else if is_line(number, over) {
-        Err(TextError::Refused(TextFault {
-            line: number,
-            kind: 4,
-        }))
-    } else {
-        Err(TextError::Refused(TextFault {
-            line: number,
-            kind: 3,
-        }))
+    match line {
+        Line::End { .. } => true,
+        Line::Round { .. } | Line::Entry(_) => false,
     }
 }

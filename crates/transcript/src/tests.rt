@@ -69,7 +69,7 @@ round 0 tick 4294967295
 c16 wake 4294967295 init,timer,io,signal,msg,res,other gone
 c0 post 4095 16
 c1 get 67108863 fedcba9876543210
-c0 draw 5
+c2 draw 4294967295
 c10 kill 7 rest res,other killed 281474976710655
 end limit 0
 ";
@@ -142,6 +142,7 @@ fn the_first_bad_line_is_named(rt: HostRuntime) -> Result<(), Fail> {
             1,
         ),
         (b"taskrun 1\nround 0 tick 0\nc0 wake 0 io,io gone\n", 3, 1),
+        (b"taskrun 1\nround 0 tick 0\nc0 draw 5 gone\n", 3, 1),
         (
             b"taskrun 1\nround 0 tick 0\nc0 kill 0 rest -,io live 0\n",
             3,
@@ -152,7 +153,6 @@ fn the_first_bad_line_is_named(rt: HostRuntime) -> Result<(), Fail> {
             3,
             1,
         ),
-        (b"taskrun 1\nround 0 tick 0\nc0 draw 5 gone\n", 3, 1),
         (b"round 0 tick 0\n", 1, 2),
         (b"taskrun 1\ntaskrun 1\n", 2, 2),
         (b"taskrun 1\nc0 get 0 0000000000000000\n", 2, 2),

@@ -1,6 +1,6 @@
 //! A transcript: the lines of a run. Contracts see the list.
 
-ghost use Rattle.std.specs.Prelude.{◌≡◌, IfOk, List};
+ghost use Rattle.std.specs.Prelude.{◌≡◌, [], ◌∷◌, ◌++◌, IfOk, OnOk, List};
 ghost use Rattle.std.specs.List.{All};
 ghost use Rattle.transcript.specs.HasText.{HasTextLine};
 ghost use Rattle.transcript.specs.Judging.{Gives, run_of};
@@ -8,7 +8,7 @@ ghost use Rattle.transcript.specs.Judging.{Gives, run_of};
 use crate::faults::TextError;
 use crate::lines::Line;
 use crate::reader::read_within;
-use std::alloc::Global;
+use std::alloc::{AllocError, Global};
 use std::marker::Model;
 
 /// The most bytes of a text that is read: 64 MiB.
@@ -49,6 +49,22 @@ impl Transcript {
         ensures { result.now ≡ self.now }
     {
         self.list.as_slice()
+    }
+
+    /// No lines.
+    pub(crate) fn new(alloc: Global) -> Transcript
+        ensures { result ≡ [] }
+    {
+        Transcript {
+            list: Vec::new(alloc),
+        }
+    }
+
+    /// One line more.
+    pub(crate) fn push(&mut self, line: &Line) -> Result<(), AllocError>
+        ensures { OnOk result (self.new ≡ self.old ++ line.now ∷ []) }
+    {
+        self.list.extend_from_slice(&[*line])
     }
 
     /// Reads a text of at most 67,108,864 bytes.

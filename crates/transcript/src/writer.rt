@@ -2,21 +2,25 @@
 
 ghost use Rattle.std.specs.Prelude.{◌≡◌, ◌<◌, ◌++◌, ◌∷◌, [], OnOk, OnErr};
 ghost use Rattle.std.specs.List.{All};
-ghost use Rattle.transcript.specs.Added.{Kept};
+ghost use Rattle.text_lines.specs.Added.{Kept, spaced};
+ghost use Rattle.text_lines.specs.Added.{spelled};
+ghost use Rattle.text_lines.specs.Slots.{values_of};
+ghost use Rattle.text_lines.specs.Shapes.{row_words};
+ghost use Rattle.transcript.specs.Tables.{call_row, line_row};
 ghost use Rattle.transcript.specs.HasText.{HasTextEntry};
-ghost use Rattle.transcript.specs.Spelling.{head_text, entry_text, entries_text, round_text, end_text, end_word, line_text};
+ghost use Rattle.transcript.specs.Spelling.{call_words, stand_name, fate_index, end_index, seen_words, reply_words, head_text, entry_text, entries_text, round_text, end_text, line_text};
 
-use crate::lines::Line;
-use crate::put_words::{put_bytes, put_call, put_count, put_number, put_reply, put_word};
+use crate::shape::{CallName, LineName, SeenName, mask_slots};
 use std::alloc::AllocError;
-use task_machine::Entry;
+use task_machine::{Call, Entry, Reply, Seen, Stand};
+use text_lines::{Value, put_bytes, put_line, put_number, put_row, put_slots};
 
 /// Appends the first line.
 ///
 /// # Errors
 ///
 /// Where there is no memory; the text is then as it was.
-#[tactic(auto, unfolding(crate::specs::Spelling::head_text, crate::specs::Spelling::spelled))]
+#[tactic(auto, unfolding(crate::specs::Spelling::head_text, text_lines::specs::Added::spelled, text_lines::specs::Shapes::words))]
 pub fn write_head(out: &mut Vec<u8>) -> Result<(), AllocError>
     ensures written { OnOk result (out.new.items ≡ out.old.items ++ head_text) }
     ensures refused { OnErr result (out.new.items ≡ out.old.items) }
@@ -75,24 +79,110 @@ fn put_round(out: &mut Vec<u8>, number: u32, tick: u32, entries: &[Entry]) -> Re
     ensures kept { Kept out.old.items out.new.items }
     ensures written { OnOk result (out.new.items ≡ out.old.items ++ round_text number tick entries.now) }
 {
-    put_round_line(out, number, tick)?;
+    put_plain(
+        out,
+        LineName::Round,
+        &[Value::Small(number), Value::Small(tick)],
+    )?;
     for entry in entries {
         put_entry(out, entry)?;
     }
     Ok(())
 }
 
-/// Appends the line of a round.
-#[tactic(auto, unfolding(crate::specs::Spelling::spelled))]
-fn put_round_line(out: &mut Vec<u8>, number: u32, tick: u32) -> Result<(), AllocError>
+/// Appends a line that is no entry.
+fn put_plain(out: &mut Vec<u8>, name: LineName, values: &[Value<'_>]) -> Result<(), AllocError>
     ensures kept { Kept out.old.items out.new.items }
-    ensures written { OnOk result (out.new.items ≡ out.old.items ++ line_text (Line.Round number tick)) }
+    ensures written { OnOk result (out.new.items ≡ out.old.items ++ spelled (row_words (line_row name) (values_of values.now))) }
 {
-    put_bytes(out, b"round")?;
-    put_count(out, u64::from(number))?;
-    put_word(out, b"tick")?;
-    put_count(out, u64::from(tick))?;
-    put_bytes(out, b"\n")
+    put_line(out, &name.row(), values)
+}
+
+/// Appends a call.
+fn put_call(out: &mut Vec<u8>, call: &Call) -> Result<(), AllocError>
+    ensures kept { Kept out.old.items out.new.items }
+    ensures written { OnOk result (out.new.items ≡ out.old.items ++ spaced (call_words call.now)) }
+{
+    match *call {
+        Call::Wake(task, reasons) => put_named(
+            out,
+            CallName::Wake,
+            &[Value::Small(task.0), Value::Reasons(reasons)],
+        ),
+        Call::Kill(task) => put_named(out, CallName::Kill, &[Value::Small(task.0)]),
+        Call::Post(task, place) => put_named(
+            out,
+            CallName::Post,
+            &[Value::Small(task.0), Value::Small(place)],
+        ),
+        Call::Get(group) => put_named(out, CallName::Get, &[Value::Small(group)]),
+        Call::Draw(task) => put_named(out, CallName::Draw, &[Value::Small(task.0)]),
+        Call::Take(task) => put_named(out, CallName::Take, &[Value::Small(task.0)]),
+        Call::DropRun(task) => put_named(out, CallName::DropRun, &[Value::Small(task.0)]),
+        Call::Retire(task) => put_named(out, CallName::Retire, &[Value::Small(task.0)]),
+    }
+}
+
+/// Appends a call by its name and its values.
+fn put_named(out: &mut Vec<u8>, name: CallName, values: &[Value<'_>]) -> Result<(), AllocError>
+    ensures kept { Kept out.old.items out.new.items }
+    ensures written { OnOk result (out.new.items ≡ out.old.items ++ spaced (row_words (call_row name) (values_of values.now))) }
+{
+    put_row(out, &name.row(), values)
+}
+
+/// The word for where a task stands.
+fn stand_name(stand: Stand) -> SeenName
+    ensures { result ≡ stand_name stand }
+{
+    match stand {
+        Stand::Rest => SeenName::Rest,
+        Stand::Queued => SeenName::Queued,
+        Stand::Runs => SeenName::Runs,
+    }
+}
+
+/// The place of the word for whether a task was killed.
+fn fate_index(is_killed: bool) -> usize
+    ensures { result ≡ fate_index is_killed }
+{
+    if is_killed { 1 } else { 0 }
+}
+
+/// Appends what a call saw of its task.
+fn put_seen(out: &mut Vec<u8>, seen: &Seen) -> Result<(), AllocError>
+    ensures kept { Kept out.old.items out.new.items }
+    ensures written { OnOk result (out.new.items ≡ out.old.items ++ spaced (seen_words seen.now)) }
+{
+    match *seen {
+        Seen::Gone => put_row(out, &SeenName::Gone.row(), &[]),
+        Seen::Live {
+            stand,
+            pending,
+            killed,
+            takes,
+        } => put_row(
+            out,
+            &stand_name(stand).row(),
+            &[
+                Value::Reasons(pending),
+                Value::Index(fate_index(killed)),
+                Value::Number(takes),
+            ],
+        ),
+    }
+}
+
+/// Appends the answer to a call.
+fn put_reply(out: &mut Vec<u8>, reply: &Reply) -> Result<(), AllocError>
+    ensures kept { Kept out.old.items out.new.items }
+    ensures written { OnOk result (out.new.items ≡ out.old.items ++ spaced (reply_words reply.now)) }
+{
+    match reply {
+        Reply::Task(seen) => put_seen(out, seen),
+        Reply::Group(mask) => put_slots(out, mask_slots(), &[Value::Number(*mask)]),
+        Reply::Done => Ok(()),
+    }
 }
 
 /// Appends an entry.
@@ -107,21 +197,22 @@ fn put_entry(out: &mut Vec<u8>, entry: &Entry) -> Result<(), AllocError>
     put_bytes(out, b"\n")
 }
 
+/// The place of the word for how a run ended.
+fn end_index(rest: bool) -> usize
+    ensures { result ≡ end_index rest }
+{
+    if rest { 0 } else { 1 }
+}
+
 /// Appends the end line.
-#[tactic(auto, unfolding(crate::specs::Spelling::end_text, crate::specs::Spelling::spelled))]
+#[tactic(auto, unfolding(crate::specs::Spelling::end_text))]
 fn put_end(out: &mut Vec<u8>, rest: bool, last: u32) -> Result<(), AllocError>
     ensures kept { Kept out.old.items out.new.items }
     ensures written { OnOk result (out.new.items ≡ out.old.items ++ end_text rest last) }
 {
-    put_bytes(out, b"end")?;
-    put_word(out, end_name(rest))?;
-    put_count(out, u64::from(last))?;
-    put_bytes(out, b"\n")
-}
-
-/// The word for how a run ended.
-fn end_name(rest: bool) -> &'static [u8]
-    ensures { result.now ≡ end_word rest }
-{
-    if rest { b"rest" } else { b"limit" }
+    put_plain(
+        out,
+        LineName::End,
+        &[Value::Index(end_index(rest)), Value::Small(last)],
+    )
 }

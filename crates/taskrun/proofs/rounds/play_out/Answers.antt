@@ -1,7 +1,8 @@
 use Rattle.std.proofs.Common.{◌≡◌, ℕ, List, false, ◌<◌, ◌+◌, ◌-◌, ◌%◌, ◌^◌, if◌then◌else◌, [], ◌++◌, ap, sym, ◌∙◌, subst, arith}
 use Rattle.sched_base.specs.Streams.{Appends, AppendsFront}
 use Rattle.run_model.specs.Standing.{next_tick}
-use Rattle.transcript.specs.Spelling.{text_of, head_text, end_text}
+use Rattle.transcript.specs.Spelling.{head_text, end_text}
+use Rattle.run_texts.specs.RunText.{text_of}
 use Rattle.taskrun.specs.Play.{World, turned, cleared, opened, play}
 use Rattle.taskrun.specs.Engine.{world_of, Ready}
 use Rattle.taskrun.proofs.EngineForm.{formed, ranged}

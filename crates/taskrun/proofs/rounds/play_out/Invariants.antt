@@ -1,5 +1,5 @@
 use Rattle.std.proofs.Common.{◌≡◌, ◌-◌, ◌≤◌, ◌++◌, []}
-use Rattle.transcript.specs.Spelling.{text_of}
+use Rattle.run_texts.specs.RunText.{text_of}
 use Rattle.taskrun.specs.Play.{play}
 use Rattle.taskrun.specs.Engine.{world_of, Ready}
 use Rattle.taskrun.proofs.EngineTexts.{text_from}

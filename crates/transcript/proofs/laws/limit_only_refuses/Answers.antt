@@ -1,6 +1,5 @@
--- The lemmas of proofs/Limits.antt and proofs/Cut.antt.
-use Rattle.transcript.proofs.Limits.{short_text, limit_free}
-use Rattle.transcript.proofs.Cut.{long_text}
+-- The lemmas of proofs/Limit.antt.
+use Rattle.transcript.proofs.Limit.{short_text, limit_free, long_text}
 use Rattle.transcript.proofs.laws.limit_only_refuses.Goals as goal
 
 pub returns : goal.returns

@@ -1,7 +1,7 @@
 -- The parts of an entry, one after another.
 use Rattle.std.proofs.Common.{◌∙◌, ◌++◌, ap, decimal}
 use Rattle.std.proofs.lemmas.Result.{on_ok_weaker}
-use Rattle.transcript.proofs.Spaces.{entry_written}
+use Rattle.transcript.proofs.Written.{entry_written}
 use Rattle.transcript.proofs.writer.put_entry.Goals as goal
 
 pub returns-clause-written : goal.returns-clause-written

@@ -1,7 +1,7 @@
 -- The round's line and the entries so far stand behind the old text.
 use Rattle.std.proofs.Common.{◌≡◌, ◌++◌, take}
 use Rattle.std.specs.List.{flat_map}
-use Rattle.transcript.specs.Added.{Kept}
+use Rattle.text_lines.specs.Added.{Kept}
 use Rattle.transcript.specs.Spelling.{entry_text, line_text}
 use Rattle.transcript.specs.declared.lines.Line.TheVariants as line
 use Rattle.transcript.proofs.writer.put_round.Given as goal

@@ -1,0 +1,4 @@
+pub mod RunLines
+pub mod RunText
+pub mod Front
+pub mod Laws

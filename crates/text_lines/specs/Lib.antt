@@ -1,0 +1,10 @@
+pub mod Steps
+pub mod Pieces
+pub mod Numbers
+pub mod Masks
+pub mod Reasons
+pub mod Names
+pub mod Added
+pub mod Slots
+pub mod Shapes
+pub mod Lines
