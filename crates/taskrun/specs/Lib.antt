@@ -3,3 +3,4 @@ pub mod Play
 pub mod Stands
 pub mod Headline
 pub mod Answers
+pub mod CommandLine

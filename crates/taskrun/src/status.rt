@@ -2,6 +2,7 @@
 
 ghost use Rattle.std.specs.Prelude.{◌≡◌};
 
+use std::process::ExitCode;
 use step_tables::ScriptFault;
 use transcript::TextFault;
 
@@ -44,5 +45,16 @@ impl Status {
             Status::NotLawful(_) => 6,
             Status::TextRefused(_) => 7,
         }
+    }
+}
+
+impl From<Status> for ExitCode {
+    ghost use Rattle.std.specs.Process.{exit_status};
+    ghost use Rattle.taskrun.specs.Answers.{code_of};
+
+    ghost from_gives = { λ status exit. exit_status exit ≡ code_of status };
+
+    fn from(status: Status) -> ExitCode {
+        ExitCode::from(status.code())
     }
 }

@@ -1,8 +1,11 @@
 //! The program over streams in memory.
 
-use crate::{Status, taskrun};
+use crate::{Status, answer, taskrun};
 use sched_base::{MemSink, MemSource, OpenGate, StdSink, StdSource};
 use std::alloc::{AllocError, Global};
+use std::env::Args;
+use std::io::{self, ErrorKind};
+use std::process::ExitCode;
 use std::test::Fail;
 
 const FIRST: &str =
@@ -45,6 +48,7 @@ const CALM: Streams = Streams {
 #[derive(Drop)]
 struct Outcome {
     code: u8,
+    exit: ExitCode,
     text: Vec<u8>,
     complaints: usize,
 }
@@ -65,8 +69,19 @@ fn words_of(alloc: Global, line: &str) -> Result<Vec<String>, AllocError> {
     Ok(words)
 }
 
+/// Runs a script by the command line `taskrun` with these words.
 fn run(alloc: Global, line: &str, script: &str, streams: Streams) -> Result<Outcome, AllocError> {
-    let words = words_of(alloc, line)?;
+    let line = format!(in alloc; "taskrun {line}")?;
+    let words = words_of(alloc, line.as_str())?;
+    run_by(alloc, Ok(words.into_iter()), script, streams)
+}
+
+fn run_by(
+    alloc: Global,
+    args: io::Result<Args>,
+    script: &str,
+    streams: Streams,
+) -> Result<Outcome, AllocError> {
     let bytes = Vec::from_slice(alloc, script.as_bytes())?;
     let mut src = MemSource::new(
         bytes,
@@ -76,10 +91,11 @@ fn run(alloc: Global, line: &str, script: &str, streams: Streams) -> Result<Outc
     let fails_out = listed(alloc, streams.fails_out)?;
     let mut out = MemSink::new(alloc, streams.room, streams.piece_out.max(1), fails_out)?;
     let mut err = MemSink::new(alloc, 100, 100, Vec::new(alloc))?;
-    let status = taskrun(alloc, &words, &mut src, &mut out, &mut err, &OpenGate);
+    let status = answer(alloc, args, &mut src, &mut out, &mut err, &OpenGate);
     let text = Vec::from_slice(alloc, out.held())?;
     Ok(Outcome {
         code: status.code(),
+        exit: ExitCode::from(status),
         text,
         complaints: err.held().len(),
     })
@@ -107,6 +123,42 @@ fn answers_worked_scripts(rt: HostRuntime) -> Result<(), Fail> {
         assert_eq!(rt; outcome.code, code);
         assert_eq!(rt; outcome.text.as_slice(), text.as_bytes());
         assert_eq!(rt; outcome.complaints, 0);
+    }
+    Ok(())
+}
+
+/// Whether the process ends with this code.
+fn ends_with(alloc: Global, outcome: &Outcome, code: u8) -> Result<bool, AllocError> {
+    let exit = format!(in alloc; "{:?}", outcome.exit)?;
+    let named = format!(in alloc; "ExitCode(unix_exit_status({code}))")?;
+    Ok(outcome.code == code && exit.as_str() == named.as_str())
+}
+
+#[test]
+fn answers_become_exit_codes(rt: HostRuntime) -> Result<(), Fail> {
+    let fails_in = Streams {
+        fails_in: Some(0),
+        ..CALM
+    };
+    let fails_out = Streams {
+        fails_out: Some(0),
+        ..CALM
+    };
+    let cases = [
+        ("run", FIRST, CALM, 0),
+        ("run", "", CALM, 1),
+        ("", FIRST, CALM, 2),
+        ("run", FIRST, fails_in, 3),
+        ("run", FIRST, fails_out, 4),
+    ];
+    for (line, script, streams, code) in cases {
+        let outcome = run(rt.alloc(), line, script, streams)?;
+        assert!(rt; ends_with(rt.alloc(), &outcome, code)?);
+    }
+    for (kind, code) in [(ErrorKind::InvalidData, 2), (ErrorKind::OutOfMemory, 5)] {
+        let outcome = run_by(rt.alloc(), Err(io::Error::from(kind)), FIRST, CALM)?;
+        assert!(rt; ends_with(rt.alloc(), &outcome, code)?);
+        assert!(rt; outcome.text.is_empty());
     }
     Ok(())
 }
