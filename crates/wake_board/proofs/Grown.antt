@@ -1,0 +1,47 @@
+-- What a call makes of a pass.
+use Rattle.std.proofs.Common.{◌≡◌, ℕ, ◌+◌, false, List, [], ◌∷◌, ◌++◌, refl, sym, ap, subst, ◌∙◌, arith}
+use Rattle.atomic_table.specs.Table.{Me}
+use Rattle.atomic_table.specs.Seated.{TableId}
+use Rattle.task_machine.specs.declared.calls.Call.{Call}
+use Rattle.task_machine.specs.declared.calls.Reply.{Reply}
+use Rattle.task_machine.specs.declared.calls.Entry.{Entry}
+use Rattle.task_machine.specs.Step.{task_at, bit}
+use Rattle.task_machine.specs.Since.{is_take}
+use Rattle.wake_board.specs.declared.body.Body.{Body}
+use Rattle.wake_board.specs.declared.views.View.{View}
+use Rattle.wake_board.specs.Start.{Start, start_in}
+use Rattle.wake_board.specs.Seen.{Held, entry_by, own_log, logged, with_call, Attests, Calls, Told}
+use Rattle.wake_board.specs.Own.{takes_in, held_by, IsPass}
+
+pub takes_in-end : (i : ℕ) (es : List Entry) (e : Entry) → takes_in i (es ++ e ∷ []) ≡ takes_in i es + bit (is_take i e.call)
+takes_in-end i [] e = omega arith
+takes_in-end i (x ∷ es) e = let more = takes_in-end i es e in omega arith
+
+-- a call that takes nothing leaves the parts of a pass together
+pub IsPass-told : (who : ℕ) (takes : List ℕ) (me new : Me Body View) (c : Call) (a : Reply) → IsPass who takes me → Told me c a new → ((i : ℕ) → is_take i c ≡ false) → IsPass who takes new
+IsPass-told who takes me new c a r t no_take =
+    let e : Entry = entry_by me.0.first c a in
+    let there : IsPass who takes (logged me.0 e, me.1) = record {
+      log = refl;
+      number = r.number;
+      slots = r.slots;
+      sized = r.sized;
+      known = λ i l h w.
+          let none : bit (is_take i c) ≡ 0 = ap bit (no_take i) in
+          let more = takes_in-end i (own_log me.0.logs) e in
+          let same : takes_in i (own_log me.0.logs ++ e ∷ []) ≡ takes_in i (own_log me.0.logs) = omega arith in
+          r.known i l h w ∙ ap (λ n. (task_at (start_in me.0.start).state i).takes + n) (sym same);
+    } in
+    subst (IsPass who takes) (sym t.seat) there
+
+-- the call, as contracts see the pass
+pub Calls-told : (board later : TableId) (who : ℕ) (takes : List ℕ) (me new : Me Body View) (c : Call) (a : Reply) → later ≡ board → IsPass who takes me → Told me c a new → Calls (held_by board who me.0) c a (held_by later who new.0)
+Calls-told board later who takes me new c a same r t =
+    let e : Entry = entry_by me.0.first c a in
+    let f : Entry = entry_by who c a in
+    let one : e ≡ f = ap (λ (n : ℕ). entry_by n c a) r.number in
+    let grown : held_by later who new.0 ≡ with_call (held_by board who me.0) c a = ap (λ (b : TableId). held_by b who new.0) same ∙ (ap (λ (x : Me Body View). held_by board who x.0) t.seat ∙ ap (λ (x : Entry). held_by board who (logged me.0 x)) one) in
+    let start : Start = start_in me.0.start in
+    let log : own_log new.0.logs ≡ own_log me.0.logs ++ f ∷ [] = ap (λ (x : Me Body View). own_log x.0.logs) t.seat ∙ ap (λ (x : Entry). own_log me.0.logs ++ x ∷ []) one in
+    let attested : Attests start who c a (own_log me.0.logs ++ f ∷ []) = subst (λ (n : ℕ). Attests start n c a (own_log me.0.logs ++ f ∷ [])) r.number (subst (Attests start me.0.first c a) log t.attested) in
+    record { entry = grown; attested = subst (λ (h : Held). Attests start who c a h.entries) (sym grown) attested }

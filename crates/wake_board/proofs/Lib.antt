@@ -1,0 +1,10 @@
+pub mod Deals
+pub mod Ends
+pub mod Grown
+pub mod Joins
+pub mod Moves
+pub mod Opens
+pub mod Splits
+pub mod Tables
+pub mod Tasks
+pub mod Wakes

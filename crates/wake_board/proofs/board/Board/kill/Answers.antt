@@ -1,0 +1,28 @@
+use Rattle.std.proofs.Common.{◌≡◌, ◌<◌, ◌+◌, length, refl, arith}
+use Rattle.task_machine.specs.declared.calls.Call.TheVariants as calls
+use Rattle.task_machine.specs.declared.calls.Reply.TheVariants as replies
+use Rattle.task_word.specs.Word.{seen_in}
+use Rattle.wake_board.specs.Start.{start_of}
+use Rattle.wake_board.proofs.Wakes.{kills}
+use Rattle.wake_board.proofs.Grown.{IsPass-told, Calls-told}
+use Rattle.wake_board.proofs.board.Board.kill.Goals as goal
+
+pub fetch_or-word-requires : goal.fetch_or-word-requires
+fetch_or-word-requires c =
+    let key = c.self.inside.table.shared.key in
+    let seat = c.pass.inside.seat in
+    let within : c.args.id.0 < length (start_of key).state.tasks = rw (← c.self.view_is) at c.requires.exists in
+    let same : seat.table_id ≡ c.self.inside.table.shared.table_id = rw (← c.self.view_is, ← c.pass.view_is) at c.requires.board in
+    let sized = c.self.invariant in (
+      same,
+      omega arith,
+      kills key c.self.inside.table.shared.table_id.slots seat.id seat.me c.args.id.0 (c.args.id.0 + 1) 6 c.pass.invariant.log within refl refl,
+    )
+
+pub invariant_of-pass : goal.invariant_of-pass
+invariant_of-pass c =
+    IsPass-told c.pass.inside.who.0 c.pass.inside.takes.items c.pass.inside.seat.me c.fetch_or-word.new.seat.me (calls.Kill c.args.id) (replies.Task (seen_in c.fetch_or-word.result)) c.pass.invariant (c.fetch_or-word.ensures.2 c.args.id.0 refl) (λ i. refl)
+
+pub returns : goal.returns
+returns c =
+    rw (c.seen_of.ensures.value, ← c.pass.view_is) (Calls-told c.pass.inside.seat.table_id c.fetch_or-word.new.seat.table_id c.pass.inside.who.0 c.pass.inside.takes.items c.pass.inside.seat.me c.fetch_or-word.new.seat.me (calls.Kill c.args.id) (replies.Task (seen_in c.fetch_or-word.result)) c.fetch_or-word.ensures.0 c.pass.invariant (c.fetch_or-word.ensures.2 c.args.id.0 refl))

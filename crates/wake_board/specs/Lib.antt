@@ -1,0 +1,9 @@
+pub mod Rows
+pub mod Between
+pub mod Start
+pub mod Rule
+pub mod Seen
+pub mod Own
+pub mod Sized
+pub mod Ends
+pub mod Gathered

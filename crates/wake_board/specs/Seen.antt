@@ -1,0 +1,89 @@
+-- What a pass and a board are to contracts, and what one call tells (docs/BOARD.md, "Passes").
+use Rattle.std.specs.Prelude.{◌≡◌, ℕ, suc, ◌+◌, List, [], ◌∷◌, ◌++◌, None}
+use Rattle.atomic_table.specs.Seated.{TableId}
+use Rattle.atomic_table.specs.Table.{Me, Step}
+use Rattle.task_machine.specs.declared.calls.Call.{Call}
+use Rattle.task_machine.specs.declared.calls.Call.TheVariants as calls
+use Rattle.task_machine.specs.declared.calls.Reply.{Reply}
+use Rattle.task_machine.specs.declared.calls.Reply.TheVariants as replies
+use Rattle.task_machine.specs.declared.calls.Entry.{Entry}
+use Rattle.task_machine.specs.History.{Legal, calls_of}
+use Rattle.task_word.specs.Word.{seen_in, wake_bits}
+use Rattle.wake_board.specs.declared.body.Body.{Body}
+use Rattle.wake_board.specs.declared.views.Out.{Out}
+use Rattle.wake_board.specs.declared.views.View.{View}
+use Rattle.wake_board.specs.Start.{Start, start_in}
+
+-- a pass: of which board it is, its caller's number, with what the board was opened, its own entries, the tasks that it
+-- found absent from the shared box, and the bodies that are out with it
+pub record Held : Type 0 where
+  pub board : TableId
+  pub who : ℕ
+  pub start : Start
+  pub entries : List Entry
+  pub misses : List ℕ
+  pub outs : List Out
+
+-- a board: which it is, and with what it was opened
+pub record Laid : Type 0 where
+  pub board : TableId
+  pub start : Start
+
+abbrev pub entry_by : ℕ → Call → Reply → Entry
+entry_by k c r = record { caller = record { 0 = k }; call = c; reply = r }
+
+-- a legal history from the opening ends with the entry, and the own calls of its caller in it are the entries
+abbrev pub Attests : Start → ℕ → Call → Reply → List Entry → Type 0
+Attests o k c r entries =
+    (h : List Entry) × Legal o.state (h ++ entry_by k c r ∷ []) × (calls_of k (h ++ entry_by k c r ∷ []) ≡ entries)
+
+-- the pass with one more entry of its own
+abbrev pub with_call : Held → Call → Reply → Held
+with_call p c r = record p { entries = p.entries ++ entry_by p.who c r ∷ [] }
+
+-- the call added one entry to the pass's own, and no other; a legal history from the opening ends with it, in which the
+-- pass's own calls are just its entries
+pub record Calls (old : Held) (c : Call) (r : Reply) (new : Held) : Type 0 where
+  pub entry : new ≡ with_call old c r
+  pub attested : Attests old.start old.who c r new.entries
+
+-- the only log of a view
+abbrev pub own_log : List (List Entry) → List Entry
+own_log [] = []
+own_log (es ∷ ess) = es
+
+abbrev pub logged : View → Entry → View
+logged v e = record v { logs = (own_log v.logs ++ e ∷ []) ∷ [] }
+
+-- what a step of a call tells its seat
+pub record Told (me : Me Body View) (c : Call) (r : Reply) (new : Me Body View) : Type 0 where
+  pub seat : new ≡ (logged me.0 (entry_by me.0.first c r), me.1)
+  pub attested : Attests (start_in me.0.start) me.0.first c r (own_log new.0.logs)
+
+-- a wake and a kill by their word and operand
+abbrev pub TellsWake : Step Body → Me Body View → ℕ → Me Body View → Type 0
+TellsWake st me n new =
+    (i f : ℕ) → st.word ≡ i + 1 → st.first ≡ wake_bits f → Told me (calls.Wake (record { 0 = i }) f) (replies.Task (seen_in n)) new
+
+abbrev pub TellsKill : Step Body → Me Body View → ℕ → Me Body View → Type 0
+TellsKill st me n new =
+    (i : ℕ) → st.word ≡ i + 1 → Told me (calls.Kill (record { 0 = i })) (replies.Task (seen_in n)) new
+
+-- a seat with several logs gives up the first
+abbrev pub rest_of : List (List Entry) → List (List Entry)
+rest_of [] = []
+rest_of (es ∷ ess) = ess
+
+abbrev pub view_left : View → View
+view_left v = record v { first = suc v.first; logs = rest_of v.logs }
+
+abbrev pub view_right : View → View
+view_right v = record { start = v.start; first = v.first; logs = own_log v.logs ∷ []; misses = []; outs = [] }
+
+-- a seat takes in the logs of the callers right before its own
+abbrev pub view_both : View → View → View
+view_both v w = record v { first = w.first; logs = w.logs ++ v.logs; misses = v.misses ++ w.misses }
+
+-- what is left of the seat that was taken in
+abbrev pub view_spent : View
+view_spent = record { start = None; first = 0; logs = []; misses = []; outs = [] }

@@ -1,0 +1,17 @@
+//! The board: the task machine in words that many threads change at once, each call in one atomic step
+//! (docs/BOARD.md).
+#![tactic(auto)]
+
+mod board;
+mod body;
+mod open;
+mod pass;
+mod passes;
+mod views;
+mod words;
+
+pub use board::Board;
+pub use body::Body;
+pub use pass::Pass;
+pub use passes::Passes;
+pub use words::Words;

@@ -1,0 +1,85 @@
+//! What the seats of a board's table know, and the rule of the table.
+
+use crate::body::Body;
+use crate::words::Words;
+use atomic_table::{Join, Play, Split, TableRule};
+use std::collections::LinkedList;
+use std::snapshot::Snapshot;
+use step_tables::Nexts;
+use task_machine::Entry;
+
+/// With what a board is opened. It is there while the board is made, and after that in proofs alone.
+#[derive(Drop)]
+pub struct Opening {
+    pub words: Snapshot<Words>,
+    pub homes: Vec<u32>,
+    pub holders: Vec<u32>,
+    pub nexts: Snapshot<Nexts>,
+}
+
+/// A body that is out, with the takes of its task when it went out. No value of it is made.
+pub struct Out {
+    pub task: u32,
+    pub takes: u64,
+}
+
+/// What a seat knows: the logs of the callers from `first` on, the tasks that were found absent from the
+/// shared box, and the bodies that are out. No value of it is made.
+pub struct View {
+    pub start: Option<Opening>,
+    pub first: u32,
+    pub logs: LinkedList<LinkedList<Entry>>,
+    pub misses: LinkedList<u32>,
+    pub outs: LinkedList<Out>,
+}
+
+/// The rule of the table.
+pub struct Ruling;
+
+impl TableRule<Body, View, Opening> for Ruling {
+    ghost use Rattle.wake_board.specs.Rule.{IsKept, first_view};
+
+    ghost holds = { IsKept };
+
+    ghost first = { first_view };
+}
+
+/// A wake.
+pub struct Wakes;
+
+impl Play<Body, View> for Wakes {
+    ghost use Rattle.wake_board.specs.Seen.{TellsWake};
+
+    ghost then = { TellsWake };
+}
+
+/// A kill.
+pub struct Kills;
+
+impl Play<Body, View> for Kills {
+    ghost use Rattle.wake_board.specs.Seen.{TellsKill};
+
+    ghost then = { TellsKill };
+}
+
+/// The first caller's pass leaves the seat that has those of all that follow.
+pub struct Leaves;
+
+impl Split<View> for Leaves {
+    ghost use Rattle.wake_board.specs.Seen.{view_left, view_right};
+
+    ghost left = { view_left };
+
+    ghost right = { view_right };
+}
+
+/// The pass of the caller right before those of a seat comes back to it.
+pub struct Returns;
+
+impl Join<View> for Returns {
+    ghost use Rattle.wake_board.specs.Seen.{view_both, view_spent};
+
+    ghost both = { view_both };
+
+    ghost spent = { view_spent };
+}
