@@ -1,5 +1,5 @@
 -- The run of the one task is lawful: its actions, its end, and the whole of it.
-use Rattle.std.proofs.Common.{◌≡◌, ℕ, ◌+◌, ◌-◌, ◌^◌, ◌<◌, ◌≤◌, ◌==◌, ◌||◌, not, Bool, true, false, if◌then◌else◌, ℤ, pos, List, [], ◌∷◌, refl, sym, subst, arith}
+use Rattle.std.proofs.Common.{◌≡◌, ℕ, zero, suc, ◌+◌, ◌-◌, ◌^◌, ◌<◌, ◌≤◌, ◌==◌, ◌||◌, not, Bool, true, false, if◌then◌else◌, ℤ, pos, List, [], ◌∷◌, refl, sym, ap, subst, arith}
 use Rattle.std.specs.List.{AllByRecursion}
 use Rattle.sched_base.specs.declared.names.TaskId.{TaskId}
 use Rattle.queue_model.specs.RunList.{RunItem}
@@ -15,13 +15,13 @@ use Rattle.task_machine.specs.declared.calls.Call.TheVariants as calls
 use Rattle.task_machine.specs.declared.calls.Entry.{Entry}
 use Rattle.task_machine.specs.Step.{Allowed, reply_of}
 use Rattle.run_model.specs.Parts.{Part, Nothing, Either, Each}
-use Rattle.run_model.specs.Book.{Book, row_of, queued as queue, dropped, row_ended}
-use Rattle.run_model.specs.Tables.{call_of}
+use Rattle.run_model.specs.Book.{Book, queued as queue, untimed, row_ended}
+use Rattle.run_model.specs.Tables.{call_of, row_at, row_number, row_by}
 use Rattle.run_model.specs.Turn.{Acts, Hands, Returns, Drops, RunsRow, RunOf}
 use Rattle.taskrun.specs.Play.{worker, task, World, made, ended, acted_all, ran}
 use Rattle.taskrun.specs.Stands.{at, one, IsAction, rests, waits, is_over, Settled}
 use Rattle.taskrun.proofs.OneTask.{is_task_id, not_zero}
-use Rattle.taskrun.proofs.Went.{entry_of, Went, went_then, went_quiet, went_asks, went_makes, went_from, went_queue}
+use Rattle.taskrun.proofs.Went.{entry_of, Went, went_then, went_quiet, went_asks, went_makes, went_queue}
 
 -- a script of one worker and one task, by what may differ
 pub record Form : Type 0 where
@@ -38,6 +38,7 @@ row_of_form f = record { actions = f.actions; expiry = Keep; next = 0 }
 
 abbrev pub script_of_form : Form → Script
 script_of_form f = record {
+  version = 1;
   workers = 1;
   depth = f.depth;
   start = f.start;
@@ -59,7 +60,6 @@ world p pending killed takes queued entries = record { state = one (at p pending
 -- the worker's book: only the run list changes from round to round
 abbrev pub book : ℕ → List RunItem → Book
 book count items = record {
-  rows = 0 ∷ [];
   wait = record { items = []; expiries = 0 ∷ [] };
   run = record { count = count; items = items };
   lists = record { urgent = []; normal = []; bulk = []; heavy = [] };
@@ -88,10 +88,10 @@ pub record Acted (f : Form) (T : ℕ) (actions : List Action) (b : Book) (takes 
   pub killed : Bool
   pub entries : List Entry
   pub is : acted_all actions w ≡ world (places.Runs worker) pending killed takes queued entries
-  pub went : Went (Each (Acts worker (Hands (script_of_form f) worker T)) actions) w b (acted_all actions w) b
+  pub went : Went (Each (Acts worker (Hands (script_of_form f) worker)) actions) w b (acted_all actions w) b
 
 -- one action and then the others
-acts_one : (f : Form) (T : ℕ) (a : Action) (actions : List Action) (b : Book) (takes : ℕ) (queued : Bool) (w : World) → Went (Acts worker (Hands (script_of_form f) worker T) a) w b (made (call_of a) w) b → Acted f T actions b takes queued (made (call_of a) w) → Acted f T (a ∷ actions) b takes queued w
+acts_one : (f : Form) (T : ℕ) (a : Action) (actions : List Action) (b : Book) (takes : ℕ) (queued : Bool) (w : World) → Went (Acts worker (Hands (script_of_form f) worker) a) w b (made (call_of a) w) b → Acted f T actions b takes queued (made (call_of a) w) → Acted f T (a ∷ actions) b takes queued w
 acts_one f T a actions b takes queued w first more = record {
   pending = more.pending;
   killed = more.killed;
@@ -149,7 +149,7 @@ settled_gone v n e idle = record {
 }
 
 -- a task that has reasons at its drop is queued, and one that has none is left
-went_back : (f : Form) (T : ℕ) (idle : Bool) (w v : World) (count : ℕ) → v.state ≡ w.state → v.entries ≡ w.entries → (c : Book) × Went (Either (not idle) (Returns (script_of_form f) worker T 0) Nothing) w (book count []) v c × BookFor c (not idle)
+went_back : (f : Form) (T : ℕ) (idle : Bool) (w v : World) (count : ℕ) → v.state ≡ w.state → v.entries ≡ w.entries → (c : Book) × Went (Either (not idle) (Returns (script_of_form f) worker 0) Nothing) w (book count []) v c × BookFor c (not idle)
 went_back f T true w v count same_state same_entries =
     (book count [], went_quiet (λ b. b) w v (book count []) same_state same_entries, record { count = count; key = pos 0; is = refl })
 went_back f T false w v count same_state same_entries =
@@ -163,13 +163,13 @@ retire_killed false pending takes w e =
     subst (λ s. Allowed s (record { caller = worker; call = calls.Retire task; reply = reply_of s worker (calls.Retire task) })) (sym e) (record { named = refl; fit = refl; room = tt; reply = refl })
 
 -- the end of the run
-pub drops : (f : Form) (T count pending : ℕ) (killed : Bool) (takes n : ℕ) (entries : List Entry) → takes ≤ n → Outcome (Drops (script_of_form f) worker T 0) (world (places.Runs worker) pending killed takes false entries) (book count []) (ended (world (places.Runs worker) pending killed takes false entries)) n
+pub drops : (f : Form) (T count pending : ℕ) (killed : Bool) (takes n : ℕ) (entries : List Entry) → takes ≤ n → Outcome (Drops (script_of_form f) worker 0) (world (places.Runs worker) pending killed takes false entries) (book count []) (ended (world (places.Runs worker) pending killed takes false entries)) n
 unfolding ended
 drops f T count pending true takes n entries few = record {
   ends = _;
   went = went_asks (calls.DropRun task) _ _ _ _ tt
       (record { named = refl; fit = refl; room = tt; reply = refl })
-      (went_makes (calls.Retire task) (λ reply. dropped 0) _ _ (book count []) tt (retire_killed (not (pending == 0)) pending takes (made (calls.DropRun task) (world (places.Runs worker) pending true takes false entries)) refl) refl refl);
+      (went_makes (calls.Retire task) (λ reply. untimed 0) _ _ (book count []) tt (retire_killed (not (pending == 0)) pending takes (made (calls.DropRun task) (world (places.Runs worker) pending true takes false entries)) refl) refl refl);
   settled = settled_gone _ n refl refl;
   book_for = record { count = count; key = pos 0; is = refl };
 }
@@ -186,8 +186,8 @@ drops f T count pending false takes n entries few =
 rows_end : (f : Form) (T count takes n : ℕ) (w : World) → (acted : Acted f T f.actions (book count []) takes false w) → takes ≤ n → Outcome (RunsRow (script_of_form f) worker T 0 (row_of_form f)) w (book count []) (ended (acted_all f.actions w)) n
 rows_end f T count takes n w acted few =
     let v = acted_all f.actions w in
-    let out : Outcome (Drops (script_of_form f) worker T 0) v (book count []) (ended v) n =
-    subst (λ v. Outcome (Drops (script_of_form f) worker T 0) v (book count []) (ended v) n) (sym acted.is)
+    let out : Outcome (Drops (script_of_form f) worker 0) v (book count []) (ended v) n =
+    subst (λ v. Outcome (Drops (script_of_form f) worker 0) v (book count []) (ended v) n) (sym acted.is)
     (drops f T count acted.pending acted.killed takes n acted.entries few) in
     let quiet = went_quiet (row_ended T 0 (row_of_form f)) v v (book count []) refl refl in
     record {
@@ -198,6 +198,14 @@ rows_end f T count takes n w acted few =
       book_for = out.book_for;
     }
 
+-- each take has the one row
+number_is : (f : Form) (t : ℕ) → row_number (script_of_form f) 0 t ≡ 0
+number_is f zero = refl
+number_is f (suc t) = ap (λ n. (row_at (script_of_form f) 0 n).next) (number_is f t)
+
+row_is : (f : Form) (t : ℕ) → row_by (script_of_form f) 0 t ≡ row_of_form f
+row_is f t = ap (λ n. row_at (script_of_form f) 0 n) (number_is f t)
+
 -- the whole run: the task is in hand, and may have been killed before
 pub runs : (f : Form) (T count pending : ℕ) (killed : Bool) (takes n : ℕ) (queued : Bool) (entries : List Entry) → AllByRecursion IsAction f.actions → takes ≤ n → n < 2 ^ 48 - 1 → Outcome (RunOf (script_of_form f) worker T 0) (world (places.Hands worker) pending killed takes queued entries) (book count []) (ran f.actions (world (places.Hands worker) pending killed takes queued entries)) (n + 1)
 unfolding ran
@@ -205,7 +213,7 @@ runs f T count pending true takes n queued entries ok few room = record {
   ends = _;
   went = went_asks (calls.Take task) _ _ _ _ tt
       (record { named = refl; fit = refl; room = omega arith; reply = refl })
-      (went_makes (calls.Retire task) (λ reply. dropped 0) _ _ (book count []) tt (record { named = refl; fit = refl; room = tt; reply = refl }) refl refl);
+      (went_makes (calls.Retire task) (λ reply. untimed 0) _ _ (book count []) tt (record { named = refl; fit = refl; room = tt; reply = refl }) refl refl);
   settled = settled_gone _ (n + 1) refl refl;
   book_for = record { count = count; key = pos 0; is = refl };
 }
@@ -216,7 +224,7 @@ runs f T count pending false takes n queued entries ok few room =
     record {
       ends = out.ends;
       went = went_asks (calls.Take task) _ _ _ _ tt (record { named = refl; fit = refl; room = omega arith; reply = refl })
-          (went_queue _ _ _ _ false (went_from (λ b. RunsRow (script_of_form f) worker T 0 (row_of (script_of_form f) 0 b)) w _ (book count []) _ out.went));
+          (went_queue _ _ _ _ false (subst (λ (row : Row). Went (RunsRow (script_of_form f) worker T 0 row) w (book count []) (ended (acted_all f.actions w)) out.ends) (sym (row_is f takes)) out.went));
       settled = out.settled;
       book_for = out.book_for;
     }

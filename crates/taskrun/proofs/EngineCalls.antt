@@ -15,6 +15,7 @@ roomy s (calls.Wake i f) h = tt
 roomy s (calls.Kill i) h = tt
 roomy s (calls.Post i b) h = tt
 roomy s (calls.Get g) h = tt
+roomy s (calls.Draw i) h = tt
 roomy s (calls.Take i) h = h i.0
 roomy s (calls.DropRun i) h = tt
 roomy s (calls.Retire i) h = tt

@@ -1,5 +1,5 @@
 -- What a sound script of the first form looks like.
-use Rattle.std.proofs.Common.{◌≡◌, ℕ, ◌<◌, ◌≤◌, ◌&&◌, Bool, true, false, ℤ, pos, negsuc, List, [], ◌∷◌, length, nat_le, nat_lt, refl, ◌∙◌, ap, arith, IsTrue}
+use Rattle.std.proofs.Common.{◌≡◌, ℕ, ◌<◌, ◌≤◌, ◌==◌, ◌&&◌, Bool, true, false, ℤ, pos, negsuc, List, [], ◌∷◌, length, nat_le, nat_lt, refl, ◌∙◌, ap, arith, IsTrue}
 use Rattle.std.proofs.lemmas.Bool.{eqb-true, leb-true, ltb-true}
 use Rattle.std.specs.List.{AllByRecursion, list_all}
 use Rattle.step_tables.specs.declared.tables.Action.{Action}
@@ -31,7 +31,7 @@ pub record OneForm (s : Script) : Type 0 where
 
 -- a script of the first form, with these tasks
 abbrev pub Formed : List TaskDef → Script → Type 0
-Formed [] s = (s.workers ≡ 1) × (s.events ≡ [])
+Formed [] s = (s.workers ≡ 1) × (s.events ≡ []) × (s.version ≡ 1)
 Formed (d ∷ ds) s = OneForm s
 
 -- the numbers of a sound script
@@ -104,18 +104,19 @@ rows_sound workers d h =
     let q = both (is_sound_kind workers d.kind) (within 1 64 (length d.rows) && list_all (is_sound_row 1 d.kind (length d.rows)) d.rows) p.1 in
     (both (within 1 64 (length d.rows)) (list_all (is_sound_row 1 d.kind (length d.rows)) d.rows) q.1).1
 
-one_form : (s : Script) (d : TaskDef) → s.workers ≡ 1 → s.events ≡ [] → s.tasks ≡ d ∷ [] → is_plain_task d ≡ true → is_sound_task s.workers 1 d ≡ true → OneForm s
-one_form s d one none alone plain sound =
+one_form : (s : Script) (d : TaskDef) → s.version ≡ 1 → s.workers ≡ 1 → s.events ≡ [] → s.tasks ≡ d ∷ [] → is_plain_task d ≡ true → is_sound_task s.workers 1 d ≡ true → OneForm s
+one_form s d first one none alone plain sound =
     let p = both _ _ plain in
     let rows = rows_are d.kind d.rows p.1 (rows_sound s.workers d sound) in
     let form : Form = record { depth = s.depth; start = s.start; step = s.step; rounds = s.rounds; name = d.name; init = d.init; actions = rows.0 } in
     record {
       form = form;
-      is = ap (λ (w : ℕ). let x : Script = record s { workers = w } in x) one
-          ∙ ap (λ (es : List Event). let x : Script = record s { workers = 1; events = es } in x) none
-          ∙ ap (λ (ts : List TaskDef). let x : Script = record s { workers = 1; events = []; tasks = ts } in x) alone
-          ∙ ap (λ (k : Kind). let x : Script = record s { workers = 1; events = []; tasks = record d { kind = k } ∷ [] } in x) (kind_is d.kind p.0)
-          ∙ ap (λ (rs : List Row). let x : Script = record s { workers = 1; events = []; tasks = record d { kind = Pinned 0 (pos 0); rows = rs } ∷ [] } in x) rows.1;
+      is = ap (λ (v : ℕ). let x : Script = record s { version = v } in x) first
+          ∙ ap (λ (w : ℕ). let x : Script = record s { version = 1; workers = w } in x) one
+          ∙ ap (λ (es : List Event). let x : Script = record s { version = 1; workers = 1; events = es } in x) none
+          ∙ ap (λ (ts : List TaskDef). let x : Script = record s { version = 1; workers = 1; events = []; tasks = ts } in x) alone
+          ∙ ap (λ (k : Kind). let x : Script = record s { version = 1; workers = 1; events = []; tasks = record d { kind = k } ∷ [] } in x) (kind_is d.kind p.0)
+          ∙ ap (λ (rs : List Row). let x : Script = record s { version = 1; workers = 1; events = []; tasks = record d { kind = Pinned 0 (pos 0); rows = rs } ∷ [] } in x) rows.1;
       actions = rows.2;
       few = rows.3;
     }
@@ -124,13 +125,14 @@ none_is : (events : List Event) → is_empty events ≡ true → events ≡ []
 none_is [] h = refl
 none_is (e ∷ es) h = cc
 
-formed_by : (s : Script) (tasks : List TaskDef) → s.workers ≡ 1 → s.events ≡ [] → s.tasks ≡ tasks → has_plain_task tasks ≡ true → list_all (is_sound_task s.workers (length tasks)) tasks ≡ true → Formed tasks s
-formed_by s [] one none alone plain sound = (one, none)
-formed_by s (d ∷ []) one none alone plain sound = one_form s d one none alone plain (both _ _ sound).0
-formed_by s (d ∷ e ∷ ds) one none alone plain sound = cc
+formed_by : (s : Script) (tasks : List TaskDef) → s.version ≡ 1 → s.workers ≡ 1 → s.events ≡ [] → s.tasks ≡ tasks → has_plain_task tasks ≡ true → list_all (is_sound_task s.workers (length tasks)) tasks ≡ true → Formed tasks s
+formed_by s [] first one none alone plain sound = (one, none, first)
+formed_by s (d ∷ []) first one none alone plain sound = one_form s d first one none alone plain (both _ _ sound).0
+formed_by s (d ∷ e ∷ ds) first one none alone plain sound = cc
 
 -- the tests that a sound script passes, one after another
 record Tests (s : Script) : Type 0 where
+  version : (s.version == 1) ≡ true
   depth : within 1 1000 s.depth ≡ true
   start : nat_le s.start 4294967295 ≡ true
   rounds : within 1 100000 s.rounds ≡ true
@@ -139,14 +141,15 @@ record Tests (s : Script) : Type 0 where
 tests_of : (s : Script) → is_sound s ≡ true → Tests s
 unfolding is_sound
 tests_of s h =
-    let a = both _ _ h in
+    let v = both _ _ h in
+    let a = both _ _ v.1 in
     let b = both _ _ a.1 in
     let c = both _ _ b.1 in
     let d = both _ _ c.1 in
     let e = both _ _ d.1 in
     let f = both _ _ e.1 in
     let g = both _ _ f.1 in
-    record { depth = b.0; start = c.0; rounds = e.0; tasks = g.0 }
+    record { version = v.0; depth = b.0; start = c.0; rounds = e.0; tasks = g.0 }
 
 -- a sound script of the first form
 pub formed : (s : Script) → IsTrue (is_sound s) → IsTrue (is_first_form s) → Formed s.tasks s
@@ -154,7 +157,8 @@ unfolding is_first_form
 formed s sound first =
     let p = both _ _ first in
     let q = both _ _ p.1 in
-    formed_by s s.tasks (eqb-true s.workers 1 p.0) (none_is s.events q.0) refl q.1 (tests_of s sound).tasks
+    let t = tests_of s sound in
+    formed_by s s.tasks (eqb-true s.version 1 t.version) (eqb-true s.workers 1 p.0) (none_is s.events q.0) refl q.1 t.tasks
 
 pub ranged : (s : Script) → IsTrue (is_sound s) → Ranged s
 ranged s sound =

@@ -15,13 +15,12 @@ use Rattle.task_machine.specs.Task.{is_busy, seen_of}
 use Rattle.task_machine.specs.Step.{State, task_at, after}
 use Rattle.run_model.specs.Run.{Round}
 use Rattle.run_model.specs.Replies.{is_killed, has_reasons}
-use Rattle.run_model.specs.Standing.{next_tick}
 use Rattle.run_model.specs.Tables.{call_of}
 use Rattle.transcript.specs.HasText.{HasTextSeen, HasTextCall, HasTextEntry}
 use Rattle.transcript.specs.Spelling.{head_text, round_text, end_text}
 use Rattle.run_texts.specs.RunText.{text_of, rounds_text}
 use Rattle.run_texts.proofs.Pieces.{text_of_pieces}
-use Rattle.taskrun.specs.Play.{worker, task, World, made, replied, collected, acted_all, ended, ran, turn_with, turned, actions_of, is_quiet, cleared, rounds_from, rests_from, opened, play}
+use Rattle.taskrun.specs.Play.{worker, task, World, made, replied, collected, acted_all, ended, ran, turn_with, turned, actions_of, is_quiet, cleared, rounds_from, rests_from, opened, play, tick_after}
 use Rattle.taskrun.specs.Stands.{at, Stands, IsAction, Settled}
 use Rattle.taskrun.specs.Engine.{Waiting, Ready}
 use Rattle.taskrun.proofs.OneTask.{is_task_id, after_take, after_act}
@@ -40,6 +39,7 @@ seen_at_place : (p : Place) (pending : ℕ) (killed : Bool) (takes : ℕ) → ta
 seen_at_place places.Rest pending killed takes few = few
 seen_at_place (places.Hands k) pending killed takes few = few
 seen_at_place (places.Boxed b) pending killed takes few = few
+seen_at_place (places.Drawn k) pending killed takes few = few
 seen_at_place (places.Runs k) pending killed takes few = few
 seen_at_place places.Gone pending killed takes few = tt
 
@@ -137,7 +137,7 @@ abbrev pub text_from : ℕ → ℕ → Script → ℕ → World → List ℕ
 text_from r zero s T w = end_text false (r - 1)
 text_from r (suc n) s T w =
     let v = turned s w in
-    round_text r T v.entries ++ (if is_quiet v then end_text true r else text_from (r + 1) n s (next_tick s T) (cleared v))
+    round_text r T v.entries ++ (if is_quiet v then end_text true r else text_from (r + 1) n s (tick_after s T) (cleared v))
 
 -- a round in front of what comes after it
 text_step : (quiet : Bool) (r : ℕ) (here : List ℕ) (rounds : List Round) (rest : Bool) (more : List ℕ) → rounds_text (r + 1) rounds ++ end_text rest ((r + 1) + length rounds - 1) ≡ more → (here ++ rounds_text (r + 1) (if quiet then [] else rounds)) ++ end_text (if quiet then true else rest) (r + suc (length (if quiet then [] else rounds)) - 1) ≡ here ++ (if quiet then end_text true r else more)
@@ -152,7 +152,7 @@ rounds_from_text : (n r : ℕ) (s : Script) (T : ℕ) (w : World) → rounds_tex
 rounds_from_text zero r s T w = rw add-zero refl
 rounds_from_text (suc n) r s T w =
     let v = turned s w in
-    text_step (is_quiet v) r (round_text r T v.entries) (rounds_from n s (next_tick s T) (cleared v)) (rests_from n s (cleared v)) _ (rounds_from_text n (r + 1) s (next_tick s T) (cleared v))
+    text_step (is_quiet v) r (round_text r T v.entries) (rounds_from n s (tick_after s T) (cleared v)) (rests_from n s (cleared v)) _ (rounds_from_text n (r + 1) s (tick_after s T) (cleared v))
 
 -- the text of the run
 pub play_text : (s : Script) → text_of (play s) ≡ head_text ++ text_from 0 s.rounds s s.start (opened s)
@@ -160,7 +160,7 @@ play_text s =
     text_of_pieces (play s) ∙ ap (λ t. head_text ++ t) (rw zero-add at (rounds_from_text s.rounds 0 s s.start (opened s)))
 
 -- the text where a round comes next
-pub text_next : (r rounds : ℕ) (s : Script) (T : ℕ) (w : World) → r < rounds → let v = turned s w in text_from r (rounds - r) s T w ≡ round_text r T v.entries ++ (if is_quiet v then end_text true r else text_from (r + 1) (rounds - (r + 1)) s (next_tick s T) (cleared v))
+pub text_next : (r rounds : ℕ) (s : Script) (T : ℕ) (w : World) → r < rounds → let v = turned s w in text_from r (rounds - r) s T w ≡ round_text r T v.entries ++ (if is_quiet v then end_text true r else text_from (r + 1) (rounds - (r + 1)) s (tick_after s T) (cleared v))
 text_next r rounds s T w h =
     let left : rounds - r ≡ suc (rounds - (r + 1)) = omega arith in
     ap (λ n. text_from r n s T w) left

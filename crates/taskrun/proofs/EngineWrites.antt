@@ -2,9 +2,8 @@
 use Rattle.std.proofs.Common.{◌≡◌, ℕ, ◌+◌, ◌-◌, ◌<◌, Bool, true, false, if◌then◌else◌, List, [], ◌++◌, Option, Some, None, Result, Ok, Err, OnErr, refl, sym, ◌∙◌, ap, subst, arith, append_assoc, append-nil}
 use Rattle.sched_base.specs.Streams.{Appends, AppendsFront}
 use Rattle.step_tables.specs.declared.tables.Script.{Script}
-use Rattle.run_model.specs.Standing.{next_tick}
 use Rattle.transcript.specs.Spelling.{round_text, end_text}
-use Rattle.taskrun.specs.Play.{World, turned, is_quiet, cleared}
+use Rattle.taskrun.specs.Play.{World, turned, is_quiet, cleared, tick_after}
 use Rattle.taskrun.proofs.Joined.{appends_more}
 use Rattle.taskrun.proofs.EngineTexts.{text_from, text_next}
 
@@ -55,11 +54,11 @@ piece_by false buffer here ends more =
     rw (none, append_assoc) refl
 
 -- what is left before a round is the buffer with the round, and then what is left after it
-pub round_piece : (r rounds : ℕ) (s : Script) (T : ℕ) (w : World) (buffer text : List ℕ) (rest : Bool) → r < rounds → rest ≡ is_quiet (turned s w) → text ≡ buffer ++ (round_text r T (turned s w).entries ++ (if rest then end_text true r else [])) → buffer ++ text_from r (rounds - r) s T w ≡ text ++ (if rest then [] else text_from (r + 1) (rounds - (r + 1)) s (next_tick s T) (cleared (turned s w)))
+pub round_piece : (r rounds : ℕ) (s : Script) (T : ℕ) (w : World) (buffer text : List ℕ) (rest : Bool) → r < rounds → rest ≡ is_quiet (turned s w) → text ≡ buffer ++ (round_text r T (turned s w).entries ++ (if rest then end_text true r else [])) → buffer ++ text_from r (rounds - r) s T w ≡ text ++ (if rest then [] else text_from (r + 1) (rounds - (r + 1)) s (tick_after s T) (cleared (turned s w)))
 round_piece r rounds s T w buffer text rest h quiet e =
     let v = turned s w in
     let here = round_text r T v.entries in
-    let more = text_from (r + 1) (rounds - (r + 1)) s (next_tick s T) (cleared v) in
+    let more = text_from (r + 1) (rounds - (r + 1)) s (tick_after s T) (cleared v) in
     ap (λ t. buffer ++ t) (text_next r rounds s T w h ∙ ap (λ b. here ++ (if b then end_text true r else more)) (sym quiet))
     ∙ piece_by rest buffer here (end_text true r) more
     ∙ ap (λ t. t ++ (if rest then [] else more)) (sym e)

@@ -14,9 +14,10 @@ use Rattle.taskrun.proofs.EngineForm.{Formed, Ranged, formed, ranged}
 -- a script without tasks, written out
 pub without_is : (s : Script) → s.tasks ≡ [] → Formed [] s → s ≡ script_without s.depth s.start s.step s.rounds
 without_is s none form =
-    ap (λ (w : ℕ). let x : Script = record s { workers = w } in x) form.0
-    ∙ ap (λ (ts : List TaskDef). let x : Script = record s { workers = 1; tasks = ts } in x) none
-    ∙ ap (λ (es : List Event). let x : Script = record s { workers = 1; tasks = []; events = es } in x) form.1
+    ap (λ (v : ℕ). let x : Script = record s { version = v } in x) form.2
+    ∙ ap (λ (w : ℕ). let x : Script = record s { version = 1; workers = w } in x) form.0
+    ∙ ap (λ (ts : List TaskDef). let x : Script = record s { version = 1; workers = 1; tasks = ts } in x) none
+    ∙ ap (λ (es : List Event). let x : Script = record s { version = 1; workers = 1; tasks = []; events = es } in x) form.1
 
 play_by_tasks : (s : Script) (tasks : List TaskDef) → s.tasks ≡ tasks → Ranged s → Formed tasks s → IsRunOf s (play s)
 play_by_tasks s [] none range form =

@@ -9,7 +9,7 @@ use Rattle.task_machine.specs.declared.calls.Entry.{Entry}
 use Rattle.task_machine.specs.Step.{task_at}
 use Rattle.run_model.specs.Run.{Round}
 use Rattle.run_model.specs.Book.{Book}
-use Rattle.run_model.specs.Standing.{opening, next_tick}
+use Rattle.run_model.specs.Standing.{opening}
 use Rattle.transcript.specs.declared.lines.Line.TheVariants as lines
 use Rattle.run_texts.specs.RunLines.{lines_from, lines_of_run}
 use Rattle.transcript.specs.HasText.{HasTextLine}
@@ -17,7 +17,7 @@ use Rattle.run_texts.specs.RunText.{HasText}
 use Rattle.run_texts.specs.RunText.{text_of}
 use Rattle.transcript.specs.Judging.{lines_of}
 use Rattle.run_texts.proofs.RunsAgain.{text_again}
-use Rattle.taskrun.specs.Play.{World, turned, is_quiet, cleared, rounds_from, rests_from, opened, play}
+use Rattle.taskrun.specs.Play.{World, turned, is_quiet, cleared, rounds_from, rests_from, opened, play, tick_after}
 use Rattle.taskrun.specs.Stands.{one, IsAction, Settled}
 use Rattle.taskrun.proofs.Went.{IsMine, SmallCall}
 use Rattle.taskrun.proofs.Acts.{Form, script_of_form, book, BookFor}
@@ -41,7 +41,7 @@ lines_next : (quiet : Bool) (r : ℕ) (more : List Round) (rest : Bool) → r < 
 lines_next true r more rest few h = (omega arith, tt)
 lines_next false r more rest few h = h
 
-tick_small : (s : Script) (T : ℕ) → next_tick s T < 2 ^ 32
+tick_small : (s : Script) (T : ℕ) → tick_after s T < 2 ^ 32
 tick_small s T = omega arith
 
 lines_rounds : (n r : ℕ) (f : Form) (T k : ℕ) (w : World) (b : Book) (rest : Bool) → 1 ≤ f.depth → AllByRecursion IsAction f.actions → k + n < 2 ^ 48 - 1 → r + n < 2 ^ 32 → T < 2 ^ 32 → Settled w k → BookFor b w.queued → w.entries ≡ [] → Small w.state → AllByRecursion HasTextLine (lines_from r (rounds_from n (script_of_form f) T w) rest)
@@ -49,12 +49,12 @@ lines_rounds zero r f T k w b rest h ok room few tick st for clear small = (omeg
 lines_rounds (suc n) r f T k w b rest h ok room few tick st for clear small =
     let s = script_of_form f in
     let v = turned s w in
-    let out = rounded f r T k w b [] h ok (omega arith) st for clear in
+    let out = rounded f r T k w b h ok (omega arith) st for clear in
     let entries = history_has_text w.state v.entries small out.legal (small_calls v.entries out.mine) in
     let small_v : Small v.state = subst Small (sym out.leads) entries.1 in
-    let more = rounds_from n s (next_tick s T) (cleared v) in
+    let more = rounds_from n s (tick_after s T) (cleared v) in
     let next : AllByRecursion HasTextLine (lines_from (r + 1) more rest) =
-    lines_rounds n (r + 1) f (next_tick s T) (k + 1) (cleared v) out.ends rest h ok (omega arith) (omega arith) (tick_small s T)
+    lines_rounds n (r + 1) f (tick_after s T) (k + 1) (cleared v) out.ends rest h ok (omega arith) (omega arith) (tick_small s T)
     (record { phase = out.settled.phase; stands = out.settled.stands; queued = out.settled.queued }) out.book_for refl small_v in
     ((omega arith, tick), all_append HasTextLine (map lines.Entry v.entries) _ entries.0 (lines_next (is_quiet v) (r + 1) more rest (omega arith) next))
 

@@ -42,6 +42,7 @@ small_changed k (calls.Wake i f) t h small room = small_if (is_gone t.place) t _
 small_changed k (calls.Kill i) t h small room = small_if (is_gone t.place) t _ h h
 small_changed k (calls.Post i b) t h small room = h
 small_changed k (calls.Get g) t h small room = small_if (is_boxed k.0 t.place) _ t h h
+small_changed k (calls.Draw i) t h small room = h
 small_changed k (calls.Take i) t h small room = (lit< tt, omega arith)
 small_changed k (calls.DropRun i) t h small room = h
 small_changed k (calls.Retire i) t h small room = (lit< tt, lit< tt)
@@ -52,6 +53,7 @@ room_about s i (calls.Wake j f) about room = tt
 room_about s i (calls.Kill j) about room = tt
 room_about s i (calls.Post j b) about room = tt
 room_about s i (calls.Get g) about room = tt
+room_about s i (calls.Draw j) about room = tt
 room_about s i (calls.Take j) about room = subst (λ n. HasRoom (task_at s n)) (sym (eqb-true i j.0 about)) room
 room_about s i (calls.DropRun j) about room = tt
 room_about s i (calls.Retire j) about room = tt
@@ -72,6 +74,7 @@ seen_small : (p : Place) (t : TaskState) → SmallTask t → FitsReply (replies.
 seen_small places.Rest t h = h
 seen_small (places.Hands k) t h = h
 seen_small (places.Boxed b) t h = h
+seen_small (places.Drawn k) t h = h
 seen_small (places.Runs k) t h = h
 seen_small places.Gone t h = (tt, tt)
 
@@ -96,6 +99,9 @@ text_by s k (calls.Post i b) r h there named small reply =
 text_by s k (calls.Get g) r h there named small reply =
     let few = h.few_tasks in
     (omega arith, subst FitsReply (sym reply.1) reply.2.0, subst (λ r. HasTextCall (calls.Get g) r) (sym reply.1) tt)
+text_by s k (calls.Draw i) r h there named small reply =
+    let few = h.few_tasks in
+    (omega arith, subst FitsReply (sym reply) tt, subst (λ r. HasTextCall (calls.Draw i) r) (sym reply) tt)
 text_by s k (calls.Take i) r h there named small reply =
     let t = told (task_at s i.0) r (h.tasks i.0) reply in let few = h.few_tasks in (omega arith, t.0, t.1)
 text_by s k (calls.DropRun i) r h there named small reply =

@@ -2,10 +2,12 @@
 use Rattle.std.proofs.Common.{◌≡◌, ℕ, zero, suc, ◌+◌, ◌-◌, ◌*◌, ◌^◌, ◌<◌, ◌≤◌, ◌||◌, Bool, true, false, if◌then◌else◌, ℤ, List, [], ◌∷◌, refl, sym, ◌∙◌, ap, subst, arith, Some, None, append-nil}
 use Rattle.std.specs.List.{AllByRecursion}
 use Rattle.std.specs.Int.{div_ceil}
+use Rattle.sched_base.specs.ReasonNames.{timer}
 use Rattle.sched_base.specs.declared.names.Class.TheVariants.{Normal}
 use Rattle.queue_model.specs.RunList.{RunItem, least, without_least}
 use Rattle.queue_model.specs.Classes.{Classes, pushed, quotas, spent, run_in, next_run}
 use Rattle.queue_model.specs.Sweep.{fired, swept}
+use Rattle.step_tables.specs.declared.tables.Script.{Script}
 use Rattle.task_machine.specs.declared.calls.Call.TheVariants as calls
 use Rattle.task_machine.specs.declared.calls.Reply.TheVariants as replies
 use Rattle.task_machine.specs.declared.calls.Entry.{Entry}
@@ -15,7 +17,7 @@ use Rattle.task_machine.proofs.Replies.{Allowed-reply_of}
 use Rattle.run_model.specs.Parts.{Part, Quiet, Then, Makes, Each}
 use Rattle.run_model.specs.Replies.{is_rest, members}
 use Rattle.run_model.specs.Book.{Book, queued as queue, queued_all, filled}
-use Rattle.run_model.specs.Turn.{Gets, Fires, RunOf, RunsOf, Runs, Turn}
+use Rattle.run_model.specs.Turn.{Gets, Fires, RunOf, RunsOf, Runs, Draws, Turn}
 use Rattle.taskrun.specs.Play.{worker, World, made, replied, collected, ran, served, turned, has_members}
 use Rattle.taskrun.specs.Stands.{at, one, IsAction, Phase, rests, waits, boxed, is_over, place_in, queued_in, Settled}
 use Rattle.taskrun.proofs.Went.{entry_of, Went, went_then, went_quiet, went_makes, went_from, went_at}
@@ -77,8 +79,8 @@ allowed_get : (phase : Phase) (pending : ℕ) (killed : Bool) (takes : ℕ) (ent
 allowed_get phase pending killed takes entries =
     Allowed-reply_of (before phase pending killed takes entries).state worker (calls.Get 0) refl refl tt
 
-pub gets : (f : Form) (T : ℕ) (phase : Phase) (pending : ℕ) (killed : Bool) (takes : ℕ) (entries : List Entry) (b : Book) → let w = before phase pending killed takes entries in Went (Gets (script_of_form f) worker T) w b (collected w) (queued_all (script_of_form f) (members 0 (replied (calls.Get 0) w)) b)
-gets f T phase pending killed takes entries b =
+pub gets : (f : Form) (phase : Phase) (pending : ℕ) (killed : Bool) (takes : ℕ) (entries : List Entry) (b : Book) → let w = before phase pending killed takes entries in Went (Gets (script_of_form f) worker) w b (collected w) (queued_all (script_of_form f) (members 0 (replied (calls.Get 0) w)) b)
+gets f phase pending killed takes entries b =
     let w = before phase pending killed takes entries in
     let c = queued_all (script_of_form f) (members 0 (replied (calls.Get 0) w)) b in
     went_then w (collected w) (collected w) b c c
@@ -90,7 +92,7 @@ fires : (f : Form) (T count : ℕ) (items : List RunItem) (v : World) → Went (
 fires f T count items v =
     went_from (λ old. Then
     (Quiet (λ b. record b { wait = swept T b.wait }))
-    (Each (λ i. Makes worker (calls.Wake (record { 0 = i }) 2) (λ reply b. if is_rest reply then queue (script_of_form f) i b else b)) (fired T old.wait)))
+    (Each (λ i. Makes worker (calls.Wake (record { 0 = i }) timer) (λ reply b. if is_rest reply then queue (script_of_form f) i b else b)) (fired T old.wait)))
     v v (book count items) (book count items)
     (went_then v v v (book count items) (book count items) (book count items)
     (went_quiet (λ b. record b { wait = swept T b.wait }) v v (book count items) refl refl)
@@ -99,7 +101,6 @@ fires f T count items v =
 -- the book once the normal list is filled
 abbrev pub book_filled : ℕ → Bool → Book
 book_filled count queued = record {
-  rows = 0 ∷ [];
   wait = record { items = []; expiries = 0 ∷ [] };
   run = record { count = count; items = [] };
   lists = record { urgent = []; normal = if queued then 0 ∷ [] else []; bulk = []; heavy = [] };
@@ -146,7 +147,18 @@ settled_more w n st = record {
 
 -- the part of a turn after the gets
 abbrev pub After : Form → ℕ → Part Book
-After f T = Then (Fires (script_of_form f) worker T) (Then (Quiet (filled f.depth)) (Runs (script_of_form f) worker T))
+After f T = Then (Fires (script_of_form f) worker T) (Then (Quiet (filled f.depth)) (Then (Runs (script_of_form f) worker T) (Draws (script_of_form f) worker T)))
+
+-- no task is shared, so none is drawn
+pub no_draws : (s : Script) (T : ℕ) (v : World) (b : Book) → Went (Draws s worker T) v b v b
+no_draws s T v b = record {
+  entries = [];
+  appended = sym (append-nil v.entries);
+  lawful = (0, omega arith, (refl, refl));
+  legal = tt;
+  leads = refl;
+  mine = tt;
+}
 
 -- the fires and the filling, and then the runs
 after_parts : (f : Form) (T count : ℕ) (key : ℤ) (queued : Bool) (v u : World) (c : Book) → 1 ≤ f.depth → Went (Runs (script_of_form f) worker T) v (book_filled count queued) u c → Went (After f T) v (book count (waiting queued key)) u c
@@ -155,7 +167,7 @@ after_parts f T count key queued v u c h ran =
     went_then v v u b b c (fires f T count (waiting queued key) v)
     (went_then v v u b (book_filled count queued) c
     (went_at v v b (filled f.depth b) (book_filled count queued) (went_quiet (filled f.depth) v v b refl refl) (filled_is f.depth count key queued h))
-    ran)
+    (went_then v u u (book_filled count queued) c c ran (no_draws (script_of_form f) T u c)))
 
 -- no run, where nothing is queued
 no_runs : (f : Form) (T count : ℕ) (v : World) → Went (Runs (script_of_form f) worker T) v (book_filled count false) v (book count [])
@@ -252,7 +264,7 @@ turn_phase f T count key phase pending killed takes n entries h ok few room =
     subst (λ c. Outcome (After f T) (collected w) c (served f.actions (collected w)) (n + 1)) (sym for.is) after_w in
     record {
       ends = out.ends;
-      went = went_then w (collected w) (served f.actions (collected w)) b c out.ends (gets f T phase pending killed takes entries b) out.went;
+      went = went_then w (collected w) (served f.actions (collected w)) b c out.ends (gets f phase pending killed takes entries b) out.went;
       settled = out.settled;
       book_for = out.book_for;
     }

@@ -19,12 +19,7 @@ entry_of c w = record { caller = worker; call = c; reply = replied c w }
 -- the reasons of a wake are out of the seven
 abbrev pub SmallCall : Call → Type 0
 SmallCall (calls.Wake i reasons) = reasons < 128
-SmallCall (calls.Kill i) = Unit {0}
-SmallCall (calls.Post i b) = Unit {0}
-SmallCall (calls.Get g) = Unit {0}
-SmallCall (calls.Take i) = Unit {0}
-SmallCall (calls.DropRun i) = Unit {0}
-SmallCall (calls.Retire i) = Unit {0}
+SmallCall c = Unit {0}
 
 -- an entry of the worker
 abbrev pub IsMine : Entry → Type 0

@@ -1,5 +1,5 @@
 -- What the one worker of a script with at most one task does, call by call (docs/MODEL.md, "The first engine").
-use Rattle.std.specs.Prelude.{ℕ, zero, suc, ◌==◌, Bool, true, false, not, ◌||◌, if◌then◌else◌, List, [], ◌∷◌, ◌++◌, fold}
+use Rattle.std.specs.Prelude.{ℕ, zero, suc, ◌+◌, ◌%◌, ◌^◌, ◌==◌, Bool, true, false, not, ◌||◌, if◌then◌else◌, List, [], ◌∷◌, ◌++◌, fold}
 use Rattle.std.specs.List.{list_all}
 use Rattle.sched_base.specs.declared.names.CallerId.{CallerId}
 use Rattle.sched_base.specs.declared.names.TaskId.{TaskId}
@@ -15,7 +15,7 @@ use Rattle.step_tables.specs.declared.tables.TaskDef.{TaskDef}
 use Rattle.run_model.specs.Run.{Round, Run}
 use Rattle.run_model.specs.Replies.{is_killed, has_reasons}
 use Rattle.run_model.specs.Tables.{call_of, row_at}
-use Rattle.run_model.specs.Standing.{opening, is_still_at, next_tick}
+use Rattle.run_model.specs.Standing.{opening, is_still_at}
 
 -- the one worker, and the one task
 abbrev pub worker : CallerId
@@ -92,12 +92,16 @@ is_quiet w = list_all (λ t. is_still_at t.place) w.state.tasks
 abbrev pub cleared : World → World
 cleared w = record w { entries = [] }
 
+-- the tick one step after T
+abbrev pub tick_after : Script → ℕ → ℕ
+tick_after s T = (T + s.step) % 2 ^ 32
+
 -- the rounds of at most n rounds from tick T on
 abbrev pub rounds_from : ℕ → Script → ℕ → World → List Round
 rounds_from zero s T w = []
 rounds_from (suc n) s T w =
     let v = turned s w in
-    record { tick = T; entries = v.entries } ∷ (if is_quiet v then [] else rounds_from n s (next_tick s T) (cleared v))
+    record { tick = T; entries = v.entries } ∷ (if is_quiet v then [] else rounds_from n s (tick_after s T) (cleared v))
 
 -- whether they come to rest
 abbrev pub rests_from : ℕ → Script → World → Bool

@@ -245,7 +245,7 @@ fn reply_to(machine: &Machine, call: &Call) -> Reply
     ensures { result ≡ reply_of machine.now worker call.now }
 {
     match *call {
-        Call::Post(..) => Reply::Done,
+        Call::Post(..) | Call::Draw(..) => Reply::Done,
         Call::Get(group) => Reply::Group(machine.box_group(WORKER.0, group)),
         Call::Wake(id, _)
         | Call::Kill(id)

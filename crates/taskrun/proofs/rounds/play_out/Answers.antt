@@ -1,9 +1,8 @@
 use Rattle.std.proofs.Common.{◌≡◌, ℕ, List, false, ◌<◌, ◌+◌, ◌-◌, ◌%◌, ◌^◌, if◌then◌else◌, [], ◌++◌, ap, sym, ◌∙◌, subst, arith}
 use Rattle.sched_base.specs.Streams.{Appends, AppendsFront}
-use Rattle.run_model.specs.Standing.{next_tick}
 use Rattle.transcript.specs.Spelling.{head_text, end_text}
 use Rattle.run_texts.specs.RunText.{text_of}
-use Rattle.taskrun.specs.Play.{World, turned, cleared, opened, play}
+use Rattle.taskrun.specs.Play.{World, turned, cleared, opened, play, tick_after}
 use Rattle.taskrun.specs.Engine.{world_of, Ready}
 use Rattle.taskrun.proofs.EngineForm.{formed, ranged}
 use Rattle.taskrun.proofs.EngineTurns.{ready_opened, ready_turned, ready_up, ready_cleared}
@@ -49,7 +48,7 @@ returns-in_err-write_all-clause-err g c =
 pub returns-then-rest-clause-ok : goal.returns-then-rest-clause-ok
 returns-then-rest-clause-ok g c =
     let s = c.args.script.now in
-    let more = text_from (c.loop-round.round + 1) (s.rounds - (c.loop-round.round + 1)) s (next_tick s c.loop-round.tick) (cleared (turned s (world_of c.loop-round.engine))) in
+    let more = text_from (c.loop-round.round + 1) (s.rounds - (c.loop-round.round + 1)) s (tick_after s c.loop-round.tick) (cleared (turned s (world_of c.loop-round.engine))) in
     let text = c.play_round.new.text.items in
     let less : c.loop-round.round < s.rounds = omega (arith, c.rounds-rounds.ensures.same) in
     let piece = round_piece c.loop-round.round s.rounds s c.loop-round.tick (world_of c.loop-round.engine) c.loop-round.text.items text c.in_ok-rest.rest less c.in_ok-rest.ensures.rest c.in_ok-rest.ensures.text in
@@ -64,7 +63,7 @@ loop-round-preserved g c =
     let v = cleared (turned s w) in
     let world = c.in_ok-rest.ensures.world in
     let few = (ranged s c.start-tick.ensures.sound).few_rounds in
-    let more = text_from (r + 1) (s.rounds - (r + 1)) s (next_tick s c.loop-round.tick) v in
+    let more = text_from (r + 1) (s.rounds - (r + 1)) s (tick_after s c.loop-round.tick) v in
     let text = c.play_round.new.text.items in
     let less : c.loop-round.round < s.rounds = omega (arith, c.rounds-rounds.ensures.same) in
     let piece = round_piece r s.rounds s c.loop-round.tick w c.loop-round.text.items text c.in_ok-rest.rest less c.in_ok-rest.ensures.rest c.in_ok-rest.ensures.text in
@@ -72,8 +71,8 @@ loop-round-preserved g c =
     let written = written_more _ _ _ _ _ _ _ c.loop-round.invariant.written next (subst (λ t. Appends (g.O.Sink.held c.loop-round.out) (g.O.Sink.held c.write_all.new.out) t) c.deref.ensures.value c.in_ok-write_all.ensures.ok) in
     let after : ℕ → List ℕ = λ tick. c.clear.new.self.items ++ text_from (r + 1) (s.rounds - (r + 1)) s tick (world_of c.play_round.new.engine) in
     let left : more ≡ after ((c.loop-round.tick + c.step-tick.result) % 2 ^ 32) =
-    ap (λ w. text_from (r + 1) (s.rounds - (r + 1)) s (next_tick s c.loop-round.tick) w) (sym world)
-    ∙ ap (λ t. t ++ text_from (r + 1) (s.rounds - (r + 1)) s (next_tick s c.loop-round.tick) (world_of c.play_round.new.engine)) (sym c.clear.ensures.items)
+    ap (λ w. text_from (r + 1) (s.rounds - (r + 1)) s (tick_after s c.loop-round.tick) w) (sym world)
+    ∙ ap (λ t. t ++ text_from (r + 1) (s.rounds - (r + 1)) s (tick_after s c.loop-round.tick) (world_of c.play_round.new.engine)) (sym c.clear.ensures.items)
     ∙ ap (λ step. after ((c.loop-round.tick + step) % 2 ^ 32)) (sym c.step-tick.ensures.same) in
     record {
       ready = subst (λ w. Ready s w (r + 1)) (sym world) (ready_cleared s (turned s w) (r + 1) (ready_turned s w r (formed s c.start-tick.ensures.sound c.requires) c.loop-round.invariant.ready (omega (arith, few))));
