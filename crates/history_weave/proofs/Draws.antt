@@ -1,13 +1,12 @@
 -- What a legal history of one task may still hold once the task was drawn.
-use Rattle.std.proofs.Common.{◌≡◌, ◌≢◌, ℕ, ◌+◌, ◌<◌, ◌⊎◌, inl, inr, Bool, true, false, refl, sym, ap, subst, ◌∙◌, arith, List, [], ◌∷◌}
+use Rattle.std.proofs.Common.{◌≡◌, ◌≢◌, ℕ, ◌<◌, ◌⊎◌, inl, inr, Bool, refl, sym, ap, subst, ◌∙◌, arith, List, [], ◌∷◌}
 use Rattle.sched_base.specs.declared.names.CallerId.{CallerId}
-use Rattle.task_machine.specs.declared.task.Place.{Place}
 use Rattle.task_machine.specs.declared.task.Place.TheVariants as places
 use Rattle.task_machine.specs.declared.task.Seen.{Seen}
 use Rattle.task_machine.specs.declared.task.Seen.TheVariants as views
 use Rattle.task_machine.specs.declared.task.TaskState.{TaskState}
 use Rattle.task_machine.specs.declared.calls.Entry.{Entry}
-use Rattle.task_machine.specs.Task.{put, seen_at, seen_of}
+use Rattle.task_machine.specs.Task.{seen_at, seen_of}
 use Rattle.task_machine.specs.History.{calls_of}
 use Rattle.task_machine.specs.Event.{Change, wakes, kills, takes, drops, retires, Event, apart, sees, posts, gets, misses, draws, event_at, Held, Allows, altered, next, LegalFor}
 use Rattle.history_weave.specs.Rule.{SawTakes, TellsTakes, TellsTakesBy, draw_of, draws_in}

@@ -1,19 +1,18 @@
 -- What a legal history of one task may still hold, from the state in which the task is.
-use Rattle.std.proofs.Common.{◌≡◌, ◌≢◌, ℕ, ◌+◌, ◌<◌, ◌⊎◌, inl, inr, Bool, true, false, ◌==◌, if◌then◌else◌, refl, sym, ap, subst, ◌∙◌, arith, List, [], ◌∷◌}
-use Rattle.std.proofs.lemmas.Bool.{cases_eq, cases_lt}
+use Rattle.std.proofs.Common.{◌≡◌, ◌≢◌, ℕ, ◌<◌, ◌⊎◌, inl, inr, Bool, ◌==◌, if◌then◌else◌, refl, sym, ap, subst, ◌∙◌, arith, List, [], ◌∷◌}
+use Rattle.std.proofs.lemmas.Bool.{cases_lt}
 use Rattle.std.proofs.lemmas.Bool.Decides.{eqb_tells}
 use Rattle.sched_base.specs.declared.names.CallerId.{CallerId}
-use Rattle.task_machine.specs.declared.task.Place.{Place}
 use Rattle.task_machine.specs.declared.task.Place.TheVariants as places
 use Rattle.task_machine.specs.declared.task.Seen.{Seen}
 use Rattle.task_machine.specs.declared.task.TaskState.{TaskState}
 use Rattle.task_machine.specs.declared.calls.Entry.{Entry}
-use Rattle.task_machine.specs.Task.{is_busy, put, seen_at, seen_of}
+use Rattle.task_machine.specs.Task.{seen_of}
 use Rattle.task_machine.specs.History.{calls_of}
-use Rattle.task_machine.specs.Event.{Change, wakes, kills, takes, drops, retires, Event, apart, sees, posts, gets, misses, draws, event_at, Held, Allows, altered, next, LegalFor}
-use Rattle.history_weave.specs.Rule.{is_quiet, Lets, LetsBy, Holds, HoldsBy, SawTakes, TellsTakes, TellsTakesBy, draw_of, draws_in}
+use Rattle.task_machine.specs.Event.{Change, wakes, kills, takes, drops, retires, Event, apart, sees, posts, gets, misses, draws, event_at, Allows, altered, next, LegalFor}
+use Rattle.history_weave.specs.Rule.{Lets, LetsBy, Holds, HoldsBy}
 use Rattle.history_weave.proofs.Seens.{at, After, After-never, After-kept}
-use Rattle.history_weave.proofs.Swaps.{at_place, hands_differ, boxes_differ, held_in_hands, held_in_box, two_places}
+use Rattle.history_weave.proofs.Swaps.{at_place, boxes_differ, held_in_box, two_places}
 
 -- the entries without the first one of caller k
 abbrev pub all_but : ℕ → List Entry → List Entry

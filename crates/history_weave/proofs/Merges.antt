@@ -1,6 +1,5 @@
 -- Legal merges: an entry that may go can be moved to the front, so all merges lead to one state.
-use Rattle.std.proofs.Common.{◌≡◌, ◌≢◌, ℕ, ◌+◌, ◌<◌, ◌⊎◌, inl, inr, Bool, true, false, ◌==◌, if◌then◌else◌, refl, sym, ap, subst, ◌∙◌, arith, List, [], ◌∷◌, length, get_or}
-use Rattle.std.proofs.lemmas.Bool.{cases_eq}
+use Rattle.std.proofs.Common.{◌≡◌, ◌≢◌, ℕ, inl, inr, refl, sym, ap, subst, ◌∙◌, List, [], ◌∷◌, length}
 use Rattle.std.proofs.lemmas.List.{ext_get_or}
 use Rattle.std.proofs.Math.Path.{fun_ext}
 use Rattle.task_machine.specs.declared.task.TaskState.{TaskState}
@@ -8,7 +7,7 @@ use Rattle.task_machine.specs.declared.calls.Entry.{Entry}
 use Rattle.task_machine.specs.Task.{resting}
 use Rattle.task_machine.specs.Step.{State, task_at, Allowed}
 use Rattle.task_machine.specs.History.{stepped, Legal, led, calls_of, IsMerge}
-use Rattle.task_machine.specs.Event.{event_at, Allows, next, IsFormed, AllFormed, Admits, LegalFor, led_for}
+use Rattle.task_machine.specs.Event.{AllFormed, led_for}
 use Rattle.task_machine.proofs.After.{length-after}
 use Rattle.task_machine.proofs.Events.{Allowed-split, task_at-stepped, Legal-split, Legal-joined, task_at-led, AllFormed-stepped}
 use Rattle.history_weave.specs.Rule.{Ready}
@@ -28,11 +27,11 @@ AllFormed-all_but s k (e ∷ h) f =
       | inr others ↦ rw others.2 (f.0, AllFormed-all_but s k h f.1)
     ]
 
-led-workers : (s : State) (es : List Entry) → (led s es).workers ≡ s.workers
+pub led-workers : (s : State) (es : List Entry) → (led s es).workers ≡ s.workers
 led-workers s [] = refl
 led-workers s (e ∷ es) = led-workers (stepped s e) es
 
-length-led : (s : State) (es : List Entry) → length (led s es).tasks ≡ length s.tasks
+pub length-led : (s : State) (es : List Entry) → length (led s es).tasks ≡ length s.tasks
 length-led s [] = refl
 length-led s (e ∷ es) = length-led (stepped s e) es ∙ length-after s e.caller e.call
 
@@ -57,10 +56,10 @@ Legal-move s e r h ready a first l =
     let moves = λ (i : ℕ). move s.workers i e r h (task_at s i) (ready i) (admits i) first (parts.1 i) in
     let formed = AllFormed-stepped s e (all_but k h) (AllFormed-all_but s k h parts.0) in
     let legal : Legal (stepped s e) (all_but k h) =
-      Legal-joined (stepped s e) (all_but k h) formed (λ i. rw (task_at-stepped s e a i) (moves i).legal) in
+    Legal-joined (stepped s e) (all_but k h) formed (λ i. rw (task_at-stepped s e a i) (moves i).legal) in
     let tasks : (i : ℕ) → task_at (led s h) i ≡ task_at (led (stepped s e) (all_but k h)) i =
-      λ i. task_at-led s h l i ∙ (moves i).same ∙
-      sym (task_at-led (stepped s e) (all_but k h) legal i ∙ ap (λ t. led_for i t (all_but k h)) (task_at-stepped s e a i)) in
+    λ i. task_at-led s h l i ∙ (moves i).same ∙
+    sym (task_at-led (stepped s e) (all_but k h) legal i ∙ ap (λ t. led_for i t (all_but k h)) (task_at-stepped s e a i)) in
     record {
       legal = legal;
       same = same_states (led s h) (led (stepped s e) (all_but k h)) (led-workers s h ∙ sym (led-workers (stepped s e) (all_but k h))) (length-led s h ∙ sym (length-led (stepped s e) (all_but k h) ∙ length-after s e.caller e.call)) tasks;
@@ -136,10 +135,10 @@ ends_agree : (s : State) (es fs : List Entry) → Legal s es → Legal s fs → 
 ends_agree s [] fs l g same = ap (led s) (sym (no_entries fs same))
 ends_agree s (e ∷ es) fs l g same =
     let first : calls_of e.caller.0 fs ≡ e ∷ calls_of e.caller.0 es =
-      elim (whose e.caller.0 e es) [
-        | inl mine ↦ same e.caller.0 ∙ mine.1
-        | inr others ↦ absurd (others.0 refl)
-      ] in
+    elim (whose e.caller.0 e es) [
+      | inl mine ↦ same e.caller.0 ∙ mine.1
+      | inr others ↦ absurd (others.0 refl)
+    ] in
     let ready : Ready (left fs) s e = Ready-same s e (left (e ∷ es)) (left fs) same (Ready-first s e es l) in
     let m = Legal-move s e (calls_of e.caller.0 es) fs ready l.0 first g in
     ends_agree (stepped s e) es (all_but e.caller.0 fs) l.1 m.legal (calls-rest e es fs same) ∙ sym m.same

@@ -1,19 +1,18 @@
 -- An entry that may go can be moved to the front of what a legal history of one task has left, and
 -- the first entry of a legal history may go.
-use Rattle.std.proofs.Common.{◌≡◌, ◌≢◌, ℕ, ◌+◌, ◌<◌, ◌⊎◌, inl, inr, Bool, true, false, refl, sym, ap, subst, ◌∙◌, arith, List, [], ◌∷◌}
+use Rattle.std.proofs.Common.{◌≡◌, ◌≢◌, ℕ, ◌+◌, ◌⊎◌, inl, inr, Bool, true, false, refl, sym, ap, ◌∙◌, arith, List, [], ◌∷◌}
 use Rattle.std.proofs.lemmas.Bool.{cases_Bool}
 use Rattle.sched_base.specs.declared.names.CallerId.{CallerId}
-use Rattle.task_machine.specs.declared.task.Place.{Place}
 use Rattle.task_machine.specs.declared.task.Place.TheVariants as places
 use Rattle.task_machine.specs.declared.task.Seen.{Seen}
 use Rattle.task_machine.specs.declared.task.TaskState.{TaskState}
 use Rattle.task_machine.specs.declared.calls.Entry.{Entry}
-use Rattle.task_machine.specs.Task.{put, seen_of}
+use Rattle.task_machine.specs.Task.{put}
 use Rattle.task_machine.specs.History.{calls_of}
-use Rattle.task_machine.specs.Event.{Change, wakes, kills, takes, drops, retires, Event, apart, sees, posts, gets, misses, draws, event_at, Held, Allows, altered, next, LegalFor, led_for}
-use Rattle.history_weave.specs.Rule.{is_quiet, Lets, LetsBy, Holds, HoldsBy, TellsTakes, TellsTakesBy, draw_of, draws_in, IsLastDraw, ReadyAt}
-use Rattle.history_weave.proofs.Seens.{at, After, loud_after}
-use Rattle.history_weave.proofs.Swaps.{Apart, Swaps, swaps, at_place, ne_sym, held_in_box, two_places}
+use Rattle.task_machine.specs.Event.{Change, wakes, kills, takes, drops, retires, Event, apart, sees, posts, gets, misses, draws, event_at, Allows, altered, next, LegalFor, led_for}
+use Rattle.history_weave.specs.Rule.{is_quiet, Lets, LetsBy, Holds, HoldsBy, TellsTakes, draw_of, draws_in, ReadyAt}
+use Rattle.history_weave.proofs.Seens.{at, loud_after}
+use Rattle.history_weave.proofs.Swaps.{Apart, swaps, at_place, held_in_box, two_places}
 use Rattle.history_weave.proofs.Futures.{all_but, whose, Unseen, UnseenBy, Unseen-past, Lets-Unseen, Holds-boxed}
 use Rattle.history_weave.proofs.Draws.{draw_apart, TellsTakes-drawn}
 
@@ -74,14 +73,13 @@ clear-looks : (w i : ℕ) (e : Entry) (r : List Entry) (d : Entry) (h : List Ent
 clear-looks w i e r d h x c y f t b =
     let same : y ≡ x = sym b.4.0 ∙ b.3.0 in
     let quiet_head : is_quiet y f ≡ true =
-      elim (cases_Bool (is_quiet y f)) [
-        | inl quiet ↦ quiet
-        | inr loud ↦
-            let past = Unseen-past w i y e.caller.0 (altered d.caller f t) h b.5 (loud_after w d.caller y f t b.4 loud) in
-            let here : UnseenBy y (event_at i e) (Unseen i y r) = rw b.8 at past in
-            let seen : UnseenBy y (sees x c) (Unseen i y r) = rw b.0 at here in absurd (seen (sym same))
-      ] in
-    (
+    elim (cases_Bool (is_quiet y f)) [
+      | inl quiet ↦ quiet
+      | inr loud ↦
+          let past = Unseen-past w i y e.caller.0 (altered d.caller f t) h b.5 (loud_after w d.caller y f t b.4 loud) in
+          let here : UnseenBy y (event_at i e) (Unseen i y r) = rw b.8 at past in
+          let seen : UnseenBy y (sees x c) (Unseen i y r) = rw b.0 at here in absurd (seen (sym same))
+    ] in (
       elim b.2 [
         | inl quiet ↦ quiet
         | inr lets ↦ elim (whose d.caller.0 d h) [

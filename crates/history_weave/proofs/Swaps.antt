@@ -1,12 +1,12 @@
 -- Two events of different callers, both allowed now, may mostly come in either order.
-use Rattle.std.proofs.Common.{◌≡◌, ◌≢◌, ℕ, ◌+◌, ◌<◌, ◌⊎◌, inl, inr, Bool, true, false, if◌then◌else◌, refl, sym, ap, subst, ◌∙◌, arith}
+use Rattle.std.proofs.Common.{◌≡◌, ◌≢◌, ℕ, ◌<◌, inl, inr, Bool, true, false, if◌then◌else◌, refl, sym, ap, subst, ◌∙◌, arith}
 use Rattle.sched_base.specs.declared.names.CallerId.{CallerId}
 use Rattle.task_machine.specs.declared.task.Place.{Place}
 use Rattle.task_machine.specs.declared.task.Place.TheVariants as places
 use Rattle.task_machine.specs.declared.task.Seen.{Seen}
 use Rattle.task_machine.specs.declared.task.TaskState.{TaskState}
-use Rattle.task_machine.specs.Task.{is_busy, put, seen_of, raised, woken, flagged, dropped}
-use Rattle.task_machine.specs.Event.{Change, wakes, kills, takes, drops, retires, Event, apart, sees, posts, gets, misses, draws, Held, MayChange, Allows, altered, next}
+use Rattle.task_machine.specs.Task.{is_busy, put, raised, woken, flagged}
+use Rattle.task_machine.specs.Event.{Change, wakes, kills, takes, drops, retires, Event, apart, sees, posts, gets, misses, draws, Held, Allows, altered, next}
 use Rattle.history_weave.specs.Rule.{is_quiet}
 use Rattle.history_weave.proofs.Seens.{at, quiet_same}
 

@@ -1,5 +1,6 @@
 -- Which entry may go next (docs/WEAVE.md, "The rule").
-use Rattle.std.specs.Prelude.{◌≡◌, ◌≢◌, ℕ, ◌+◌, ◌⊎◌, Bool, true, false, ◌==◌, bit_or, List, [], ◌∷◌}
+use Rattle.std.specs.Prelude.{◌≡◌, ◌≢◌, ℕ, ◌+◌, ◌⊎◌, Bool, true, false, not, ◌&&◌, ◌==◌, bit_or, List, [], ◌∷◌}
+use Rattle.task_machine.specs.declared.task.Stand.{Stand}
 use Rattle.task_machine.specs.declared.task.Stand.TheVariants as stands
 use Rattle.task_machine.specs.declared.task.Seen.{Seen}
 use Rattle.task_machine.specs.declared.task.Seen.TheVariants as views
@@ -8,13 +9,21 @@ use Rattle.task_machine.specs.declared.calls.Entry.{Entry}
 use Rattle.task_machine.specs.Step.{State, task_at}
 use Rattle.task_machine.specs.Event.{Change, wakes, kills, Event, apart, sees, posts, gets, misses, draws, event_at}
 
+-- whether a task at rest was seen
+abbrev pub is_rest : Stand → Bool
+is_rest stands.Rest = true
+is_rest st = false
+
+-- whether an allowed call that saw a live task changes nothing
+abbrev pub is_quiet_live : Change → Stand → ℕ → Bool → Bool
+is_quiet_live (wakes f) st p b = not (is_rest st) && (bit_or p f == p)
+is_quiet_live kills st p b = not (is_rest st) && b
+is_quiet_live c st p b = false
+
 -- whether an allowed call that saw x changes nothing
 abbrev pub is_quiet : Seen → Change → Bool
 is_quiet views.Gone c = true
-is_quiet (views.Live stands.Rest p b m) c = false
-is_quiet (views.Live st p b m) (wakes f) = bit_or p f == p
-is_quiet (views.Live st p b m) kills = b
-is_quiet (views.Live st p b m) c = false
+is_quiet (views.Live st p b m) c = is_quiet_live c st p b
 
 -- the first look at task i in the log is none that saw x and changes nothing
 abbrev pub LetsBy : Seen → Event → Type 0 → Type 0
