@@ -123,7 +123,7 @@ taken-if i c r true = taken-of i c r
 taken-if i c r false = omega arith
 
 -- an entry adds to a task's takes no more than it is takes
-stepped-takes : (s : State) (e : Entry) (i : ℕ) → Allowed s e → (task_at (stepped s e) i).takes ≤ (task_at s i).takes + take_of e.call
+pub stepped-takes : (s : State) (e : Entry) (i : ℕ) → Allowed s e → (task_at (stepped s e) i).takes ≤ (task_at s i).takes + take_of e.call
 stepped-takes s e i a =
     let now : (task_at (stepped s e) i).takes ≡ (next e.caller (event_at i e) (task_at s i)).takes = ap (λ t. t.takes) (task_at-stepped s e a i) in
     let by = next-takes e.caller (event_at i e) (task_at s i) in
@@ -190,11 +190,11 @@ pub CanMerge-end : (s : State) (logs : ℕ → List Entry) (k : ℕ) → CanMerg
 CanMerge-end s logs k m = sym (m.legal.1 k) ∙ no_merge m.merge k m.count
 
 -- what is added up over a history is added up over the callers
-weigh : (Entry → ℕ) → List Entry → ℕ
+pub weigh : (Entry → ℕ) → List Entry → ℕ
 weigh w [] = 0
 weigh w (e ∷ es) = w e + weigh w es
 
-by_callers : (w : Entry → ℕ) (n : ℕ) (h : List Entry) → ((p : ℕ) (d : Entry) → p < length h → (get_or h p d).caller.0 < n) → weigh w h ≡ sum_over (λ k. weigh w (calls_of k h)) 0 n
+pub by_callers : (w : Entry → ℕ) (n : ℕ) (h : List Entry) → ((p : ℕ) (d : Entry) → p < length h → (get_or h p d).caller.0 < n) → weigh w h ≡ sum_over (λ k. weigh w (calls_of k h)) 0 n
 unfolding weigh
 by_callers w n [] few = sym (sum_over-zero (λ k. weigh w (calls_of k [])) 0 n (λ j. refl))
 by_callers w n (e ∷ h) few =
@@ -299,23 +299,51 @@ HasMerge-own s logs m k p d lk lp =
     let there : p < length (calls_of k m.0) = rw log lp in
     ap (λ es. (get_or es p d).caller.0) (sym log) ∙ own-calls k p m.0 d there
 
--- at the start all entries are left
-pub CanMerge-start : (s : State) (logs : List Logged) (next : List ℕ) → HasMerge s logs → HasTakesLeft s logs → length logs ≡ s.workers + 1 → ((k : ℕ) → get_or next k 0 ≡ 0) → CanMerge s (left_of logs next) (entry_count logs)
-CanMerge-start s logs next m room callers zeros =
+-- a merge has as many entries and takes as the logs together
+pub merge-counts : (s : State) (logs : List Logged) (m : HasMerge s logs) → length logs ≡ s.workers + 1 → (length m.0 ≡ entry_count logs) × (takes_in m.0 ≡ take_count logs)
+merge-counts s logs m callers =
     let h = m.0 in
     let parts = Legal-split s h m.1.0 in
     let few : (p : ℕ) (d : Entry) → p < length h → (get_or h p d).caller.0 < length logs =
-    λ p d lt. (let f = formed-at s h p d parts.0 lt in rw callers (caller-lt s (get_or h p d).caller (get_or h p d).call f.0)) in
+      λ p d lt. (let f = formed-at s h p d parts.0 lt in rw callers (caller-lt s (get_or h p d).caller (get_or h p d).call f.0)) in
     let whole : (w : Entry → ℕ) → weigh w h ≡ sum_over (λ k. weigh w (log_at logs k)) 0 (length logs) =
-    λ w. by_callers w (length logs) h few ∙ sum_over-equal (λ k. weigh w (calls_of k h)) (λ k. weigh w (log_at logs k)) 0 (length logs) (λ j. ap (weigh w) (m.1.1 j)) in
+      λ w. by_callers w (length logs) h few ∙ sum_over-equal (λ k. weigh w (calls_of k h)) (λ k. weigh w (log_at logs k)) 0 (length logs) (λ j. ap (weigh w) (m.1.1 j)) in
     let count : length h ≡ entry_count logs =
-    sym (weigh-ones h) ∙ whole (λ e. 1) ∙ sum_over-equal (λ k. weigh (λ e. 1) (log_at logs k)) (λ k. length (log_at logs k)) 0 (length logs) (λ j. weigh-ones (log_at logs j)) ∙ sym (sum_over-logs length logs) in
+      sym (weigh-ones h) ∙ whole (λ e. 1) ∙ sum_over-equal (λ k. weigh (λ e. 1) (log_at logs k)) (λ k. length (log_at logs k)) 0 (length logs) (λ j. weigh-ones (log_at logs j)) ∙ sym (sum_over-logs length logs) in
     let taken : takes_in h ≡ take_count logs =
-    sym (weigh-takes h) ∙ whole (λ e. take_of e.call) ∙ sum_over-equal (λ k. weigh (λ e. take_of e.call) (log_at logs k)) (λ k. takes_in (log_at logs k)) 0 (length logs) (λ j. weigh-takes (log_at logs j)) ∙ sym (sum_over-logs takes_in logs) in
+      sym (weigh-takes h) ∙ whole (λ e. take_of e.call) ∙ sum_over-equal (λ k. weigh (λ e. take_of e.call) (log_at logs k)) (λ k. takes_in (log_at logs k)) 0 (length logs) (λ j. weigh-takes (log_at logs j)) ∙ sym (sum_over-logs takes_in logs) in
+    (count, taken)
+
+pub takes_in-le : (h : List Entry) → takes_in h ≤ length h
+takes_in-le [] = omega arith
+takes_in-le (e ∷ h) = let one = take_of-le e.call in let rest = takes_in-le h in omega arith
+  where
+    take_of-le : (c : Call) → take_of c ≤ 1
+    take_of-le (calls.Take i) = omega arith
+    take_of-le c = omega arith
+
+-- who is no caller has no calls in a legal history
+pub legal-callers : (s : State) (h : List Entry) (k : ℕ) → Legal s h → s.workers + 1 ≤ k → calls_of k h ≡ []
+legal-callers s h k l past = no-calls s h k (Legal-split s h l).0 past
+  where
+    no-calls : (s : State) (h : List Entry) (k : ℕ) → AllFormed s h → s.workers + 1 ≤ k → calls_of k h ≡ []
+    no-calls s [] k f past = refl
+    no-calls s (e ∷ h) k f past =
+        let lt = caller-lt s e.caller e.call f.0.0 in
+        elim (whose k e h) [
+          | inl mine ↦ absurd (let own = mine.0 in omega arith)
+          | inr others ↦ others.1 ∙ no-calls s h k f.1 past
+        ]
+
+-- at the start all entries are left
+pub CanMerge-start : (s : State) (logs : List Logged) (next : List ℕ) → HasMerge s logs → HasTakesLeft s logs → length logs ≡ s.workers + 1 → ((k : ℕ) → get_or next k 0 ≡ 0) → CanMerge s (left_of logs next) (entry_count logs)
+CanMerge-start s logs next m room callers zeros =
+    let counts = merge-counts s logs m callers in
+    let taken = counts.1 in
     record {
-      merge = h;
+      merge = m.0;
       legal = (m.1.0, λ k. m.1.1 k ∙ sym (ap (λ q. drop q (log_at logs k)) (zeros k)));
-      count = count;
+      count = counts.0;
       room = λ i. (let few_takes = room i in omega arith);
     }
 
