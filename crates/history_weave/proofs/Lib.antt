@@ -1,0 +1,15 @@
+pub mod Advances
+pub mod Chains
+pub mod Draws
+pub mod Entering
+pub mod Futures
+pub mod KindEvents
+pub mod Lookups
+pub mod Merges
+pub mod Moves
+pub mod NextPlaces
+pub mod Seens
+pub mod Sums
+pub mod Swaps
+pub mod Tables
+pub mod Weaves
