@@ -11,7 +11,7 @@ use Rattle.step_tables.specs.declared.tables.Row.{Row}
 use Rattle.step_tables.specs.declared.tables.TaskDef.{TaskDef}
 use Rattle.step_tables.specs.declared.tables.Event.{Event}
 use Rattle.step_tables.specs.Tables.{Tables}
-use Rattle.step_tables.specs.Words.{Word, is_empty, is_name}
+use Rattle.step_tables.specs.Words.{Word, is_name}
 
 -- whether n is from low to high
 abbrev pub within : ℕ → ℕ → ℕ → Bool
@@ -66,40 +66,3 @@ is_sound s =
     s.version == 1 && (within 1 16 s.workers && (within 1 1000 s.depth && (nat_le s.start 4294967295 && (within 1 1048576 s.step && (within 1 100000 s.rounds
     && (nat_le (length s.tasks) 4096 && (list_all (is_sound_task s.workers (length s.tasks)) s.tasks && (distinct_names (map (λ task. task.name) s.tasks)
     && (nat_le (length s.events) 65536 && (list_all (λ event. is_sound_action (length s.tasks) event.action) s.events && rising_below 0 s.rounds s.events))))))))))
-
--- whether it is 0
-abbrev pub is_zero : ℤ → Bool
-is_zero (pos n) = n == 0
-is_zero (negsuc n) = false
-
--- whether a task is pinned to worker 0 at nice 0
-abbrev pub is_plain_kind : Kind → Bool
-is_plain_kind (Pinned home nice) = home == 0 && is_zero nice
-is_plain_kind (Shared nice) = false
-is_plain_kind (Tasklet home class) = false
-
--- whether the row leaves the timer alone
-abbrev pub is_keep : Expiry → Bool
-is_keep Keep = true
-is_keep (After ticks) = false
-is_keep Never = false
-
--- whether there is one row, and it leaves the timer alone
-abbrev pub has_plain_row : List Row → Bool
-has_plain_row [] = false
-has_plain_row (row ∷ []) = is_keep row.expiry
-has_plain_row (row ∷ other ∷ rows) = false
-
--- whether a task is pinned to worker 0 at nice 0, with one row that leaves the timer alone
-abbrev pub is_plain_task : TaskDef → Bool
-is_plain_task task = is_plain_kind task.kind && has_plain_row task.rows
-
--- whether there is no task, or a plain one
-abbrev pub has_plain_task : List TaskDef → Bool
-has_plain_task [] = true
-has_plain_task (task ∷ []) = is_plain_task task
-has_plain_task (task ∷ other ∷ tasks) = false
-
--- whether the script is of the form that the first runs take: one worker, no event, and no task or a plain one
-unfoldable pub is_first_form : Tables → Bool
-is_first_form s = s.workers == 1 && (is_empty s.events && has_plain_task s.tasks)

@@ -3,7 +3,6 @@
 
 mod adding;
 mod faults;
-mod first_form;
 mod judging;
 pub mod laws;
 mod lists;

@@ -4,7 +4,8 @@ use Rattle.sched_base.specs.Streams.{Appends, AppendsFront}
 use Rattle.step_tables.specs.declared.faults.ScriptFault.{ScriptFault}
 use Rattle.step_tables.specs.declared.tables.Script.{Script}
 use Rattle.step_tables.specs.Judging.{script_of, byte_limit}
-use Rattle.step_tables.specs.Sound.{is_first_form, is_sound}
+use Rattle.step_tables.specs.Sound.{is_sound}
+use Rattle.taskrun.specs.FirstForm.{is_first_form}
 use Rattle.step_tables.proofs.Length.{read_length, read_cut}
 use Rattle.run_texts.specs.RunText.{text_of}
 use Rattle.taskrun.specs.declared.status.Status.{Status}

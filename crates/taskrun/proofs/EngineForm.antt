@@ -13,7 +13,8 @@ use Rattle.step_tables.specs.declared.tables.Event.{Event}
 use Rattle.step_tables.specs.declared.tables.Script.{Script}
 use Rattle.step_tables.specs.declared.tables.TaskDef.{TaskDef}
 use Rattle.step_tables.specs.Words.{is_empty, is_name}
-use Rattle.step_tables.specs.Sound.{within, is_sound, is_sound_action, is_sound_expiry, is_sound_row, is_sound_kind, is_sound_task, is_first_form, is_plain_kind, is_plain_task, is_keep, has_plain_row, has_plain_task, is_zero}
+use Rattle.step_tables.specs.Sound.{within, is_sound, is_sound_action, is_sound_expiry, is_sound_row, is_sound_kind, is_sound_task}
+use Rattle.taskrun.specs.FirstForm.{is_first_form, is_plain_kind, is_plain_task, is_keep, has_plain_row, has_plain_task, is_zero}
 use Rattle.taskrun.specs.Stands.{IsAction}
 use Rattle.taskrun.proofs.Acts.{Form, script_of_form}
 

@@ -3,7 +3,8 @@ use Rattle.std.proofs.Common.{◌≡◌, ℕ, true, List, [], ◌∷◌, refl, s
 use Rattle.step_tables.specs.declared.tables.Event.{Event}
 use Rattle.step_tables.specs.declared.tables.Script.{Script}
 use Rattle.step_tables.specs.declared.tables.TaskDef.{TaskDef}
-use Rattle.step_tables.specs.Sound.{is_sound, is_first_form}
+use Rattle.step_tables.specs.Sound.{is_sound}
+use Rattle.taskrun.specs.FirstForm.{is_first_form}
 use Rattle.taskrun.specs.Headline.{IsRunOf}
 use Rattle.taskrun.specs.Play.{play}
 use Rattle.taskrun.proofs.Acts.{script_of_form}

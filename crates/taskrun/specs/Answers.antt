@@ -3,7 +3,7 @@ use Rattle.std.specs.Prelude.{◌≡◌, ℕ, ◌≤◌, ◌⊎◌, Bool, true, 
 use Rattle.sched_base.specs.Streams.{Reads, Appends, AppendsFront}
 use Rattle.step_tables.specs.declared.faults.ScriptFault.{ScriptFault}
 use Rattle.step_tables.specs.declared.tables.Script.{Script}
-use Rattle.step_tables.specs.Sound.{is_first_form}
+use Rattle.taskrun.specs.FirstForm.{is_first_form}
 use Rattle.run_model.specs.Run.{Run}
 use Rattle.run_texts.specs.RunLines.{lines_of_run}
 use Rattle.run_texts.specs.RunText.{text_of}

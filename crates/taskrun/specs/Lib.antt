@@ -3,4 +3,5 @@ pub mod Play
 pub mod Stands
 pub mod Headline
 pub mod Answers
+pub mod FirstForm
 pub mod CommandLine

@@ -3,7 +3,8 @@
 ghost use Rattle.std.specs.Prelude.{◌≡◌, ◌+◌, ◌^◌, ◌<◌, ◌≤◌, true, [], length, slice_index_or, IfOk, IsTrue};
 ghost use Rattle.std.specs.List.{AllByRecursion};
 ghost use Rattle.task_machine.specs.Step.{is_named, fits, AllRoom, reply_of};
-ghost use Rattle.step_tables.specs.Sound.{is_sound, is_first_form};
+ghost use Rattle.step_tables.specs.Sound.{is_sound};
+ghost use Rattle.taskrun.specs.FirstForm.{is_first_form};
 ghost use Rattle.run_model.specs.Replies.{is_killed, has_reasons};
 ghost use Rattle.run_model.specs.Standing.{opening, is_still_at};
 ghost use Rattle.run_model.specs.Tables.{call_of, blank_row};

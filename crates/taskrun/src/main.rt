@@ -3,6 +3,7 @@
 
 mod command_line;
 mod engine;
+mod first_form;
 mod pieces;
 mod rounds;
 mod status;

@@ -2,7 +2,7 @@
 
 ghost use Rattle.std.specs.Prelude.{◌≡◌, ℕ, ◌^◌, ◌≤◌, [], ◌++◌, length, true, if◌then◌else◌, IsTrue, IfOk, IfErr, OnOk, OnErr};
 ghost use Rattle.sched_base.specs.Streams.{Appends, AppendsFront, Rose};
-ghost use Rattle.step_tables.specs.Sound.{is_first_form};
+ghost use Rattle.taskrun.specs.FirstForm.{is_first_form};
 ghost use Rattle.transcript.specs.Spelling.{round_text, end_text};
 ghost use Rattle.run_texts.specs.RunText.{text_of};
 ghost use Rattle.taskrun.specs.Play.{turned, is_quiet, cleared, play};

@@ -4,9 +4,10 @@ ghost use Rattle.std.specs.Prelude.{◌≡◌, ℕ, ◌≤◌, Bool, true, false
 ghost use Rattle.std.specs.String.{string_bytes};
 ghost use Rattle.sched_base.specs.Streams.{Rose};
 ghost use Rattle.step_tables.specs.Judging.{script_of};
-ghost use Rattle.step_tables.specs.Sound.{is_first_form};
+ghost use Rattle.taskrun.specs.FirstForm.{is_first_form};
 ghost use Rattle.taskrun.specs.Answers.{is_run, Answers, Expected, IsRunning, IsUnwritten, IsOfRun, ReadsAtMost};
 
+use crate::first_form::is_first_form;
 use crate::pieces::{ReadError, read_all};
 use crate::rounds::{PlayError, play_out};
 use crate::status::Status;
@@ -96,7 +97,7 @@ fn run_script<O: Sink>(alloc: Global, script: &Script, out: &mut O) -> Status
     ensures unwritten { IsUnwritten result → out.new ≡ out.old }
     ensures running { IsRunning result }
 {
-    if !script.is_first_form() {
+    if !is_first_form(script) {
         return Status::ScriptRefused(OTHER_FORM);
     }
     match play_out(alloc, script, out) {

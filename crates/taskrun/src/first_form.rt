@@ -1,9 +1,10 @@
-//! The form of the scripts that the first runs take.
+//! The form of the scripts that the program runs today.
 
 ghost use Rattle.std.specs.Prelude.{◌≡◌, IsTrue};
-ghost use Rattle.step_tables.specs.Sound.{is_plain_kind, is_keep, has_plain_row, is_plain_task, has_plain_task, is_first_form, is_sound};
+ghost use Rattle.step_tables.specs.Sound.{is_sound};
+ghost use Rattle.taskrun.specs.FirstForm.{is_plain_kind, is_keep, has_plain_row, is_plain_task, has_plain_task, is_first_form};
 
-use crate::tables::{Expiry, Kind, Row, Script, TaskDef};
+use step_tables::{Expiry, Kind, Row, Script, TaskDef};
 
 /// Whether a task is pinned to worker 0 at nice 0.
 fn is_plain_kind(kind: Kind) -> bool
@@ -53,14 +54,12 @@ fn has_plain_task(tasks: &[TaskDef]) -> bool
     }
 }
 
-impl Script {
-    /// Whether there is one worker, no event, and no task or one task that is pinned to worker 0 at
-    /// nice 0 and has one row that leaves the timer alone.
-    #[tactic(auto, unfolding(crate::specs::Sound::is_first_form))]
-    pub fn is_first_form(&self) -> bool
-        ensures same { result ≡ is_first_form self.now }
-        ensures sound { IsTrue (is_sound self.now) }
-    {
-        self.workers() == 1 && self.events().is_empty() && has_plain_task(self.tasks())
-    }
+/// Whether there is one worker, no event, and no task or one task that is pinned to worker 0 at
+/// nice 0 and has one row that leaves the timer alone.
+#[tactic(auto, unfolding(crate::specs::FirstForm::is_first_form))]
+pub(crate) fn is_first_form(script: &Script) -> bool
+    ensures same { result ≡ is_first_form script.now }
+    ensures sound { IsTrue (is_sound script.now) }
+{
+    script.workers() == 1 && script.events().is_empty() && has_plain_task(script.tasks())
 }
