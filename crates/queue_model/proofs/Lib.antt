@@ -1,3 +1,6 @@
+pub mod Clock
+pub mod ClockMoved
+pub mod Offsets
 pub mod Settles
 pub mod SweepSteps
 pub mod Walk

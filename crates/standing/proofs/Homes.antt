@@ -124,10 +124,10 @@ kept_as (Pinned home nice) s i b = refl
 kept_as (Shared nice) s i b = refl
 kept_as (Tasklet home class) s i b = refl
 
-wait-queued : (s : Script) (i : ℕ) (b : Book) → (queued s i b).wait ≡ b.wait
+pub wait-queued : (s : Script) (i : ℕ) (b : Book) → (queued s i b).wait ≡ b.wait
 wait-queued s i b = kept_as (def_of s i).kind s i b
 
-wait-queued_all : (s : Script) (ids : List ℕ) (b : Book) → (queued_all s ids b).wait ≡ b.wait
+pub wait-queued_all : (s : Script) (ids : List ℕ) (b : Book) → (queued_all s ids b).wait ≡ b.wait
 wait-queued_all s [] b = refl
 wait-queued_all s (i ∷ ids) b = wait-queued_all s ids (queued s i b) ∙ wait-queued s i b
 

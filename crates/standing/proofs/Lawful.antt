@@ -2,14 +2,19 @@
 use Rattle.std.proofs.Common.{◌++◌}
 use Rattle.turn_steps.proofs.Fit.{IsFit-sound}
 use Rattle.standing.specs.Between.{entered}
-use Rattle.standing.specs.Laws.{RoundsKeep, NextCallsAreAllowed, RunsCanGoOn, RoundsAreCalls, CallersHear}
+use Rattle.standing.specs.Firm.{Firm}
+use Rattle.standing.specs.Laws.{RoundsKeep, NextCallsAreAllowed, RunsCanGoOn, RoundsAreCalls, CallersHear, RunsStandFirm, TakesAreTold, RunsTellReasons}
 use Rattle.standing.proofs.Enter.{Keeps-entered}
 use Rattle.standing.proofs.Finish.{going-front}
+use Rattle.standing.proofs.Firm.{firm-opening, firm-passes}
 use Rattle.standing.proofs.Hears.{can_give-owns}
+use Rattle.standing.proofs.HomesKept.{TimersHaveHomes-sound}
 use Rattle.standing.proofs.Limits.{takes-sound}
 use Rattle.standing.proofs.Opening.{KeepsBetween-opening}
+use Rattle.standing.proofs.ReasonsTold.{reasons-told}
 use Rattle.standing.proofs.Rounds.{made-round, KeepsBetween-round}
 use Rattle.standing.proofs.Steps.{Next-allowed, Draw-allowed, Keeps-going}
+use Rattle.standing.proofs.TakesTold.{takes-told}
 use Rattle.standing.proofs.Told.{Owns-told}
 use Rattle.standing.proofs.Whole.{extends}
 
@@ -39,3 +44,15 @@ rounds_are s r T limit old new es more keeps is =
 
 pub callers_hear_all : CallersHear
 callers_hear_all = record { owns = Owns-told; gives = can_give-owns }
+
+pub runs_firm : RunsStandFirm
+runs_firm s rounds q U st sound passes =
+    let f = firm-passes s 0 0 s.start (opening s) rounds q U st sound (firm-opening s sound) passes in
+    (f.count, f.firm)
+
+pub takes_all : TakesAreTold
+takes_all s T w i c es sound keeps lt home going live =
+    takes-told s T w i c es (TimersHaveHomes-sound s sound) keeps lt home going live
+
+pub reasons_all : RunsTellReasons
+reasons_all s run h = reasons-told s run h
