@@ -1,27 +1,21 @@
 -- What keeps the window of a worker's timers: a timer set or unset, a task unlinked, a sweep, and the next tick.
-use Rattle.std.proofs.Common.{◌≡◌, ◌≢◌, ℕ, zero, suc, ◌+◌, ◌-◌, ◌%◌, ◌^◌, ◌<◌, ◌≤◌, Bool, true, false, not, ◌&&◌, ◌==◌, if◌then◌else◌, ◌⊎◌, inl, inr, List, [], ◌∷◌, map, fold, Option, None, Some, length, get_or, set, refl, sym, ap, ◌∙◌, arith, subst, eqb-true, eq-eqb, ne_eqb, pos}
-use Rattle.std.specs.Prelude.{int_le, int_lt}
+use Rattle.std.proofs.Common.{◌≡◌, ◌≢◌, ℕ, ◌+◌, ◌^◌, ◌<◌, ◌≤◌, Bool, true, false, not, ◌==◌, if◌then◌else◌, inl, inr, List, [], ◌∷◌, Option, None, Some, length, get_or, set, refl, sym, ap, ◌∙◌, arith, subst, eqb-true, ne_eqb, pos}
+use Rattle.std.specs.Prelude.{int_lt}
 use Rattle.std.specs.List.{AllByRecursion, filter, find}
-use Rattle.std.proofs.lemmas.Bool.{cases_Bool, cases_eq, cases_lt, false≢true}
+use Rattle.std.proofs.lemmas.Bool.{cases_Bool, cases_eq, cases_lt, false≢true, eqb-false, not-true}
 use Rattle.std.proofs.lemmas.List.{get_or-set_same, get_or-set_other, set_past, get_or_past}
-use Rattle.sched_base.specs.KeyedList.{inserted}
-use Rattle.sched_base.proofs.Inserted.{all-inserted, all-filter, all-weaker}
-use Rattle.queue_model.specs.Ticks.{distance, is_set, is_expired, later}
-use Rattle.queue_model.specs.WaitList.{WaitItem, WaitList, expiry_of, with_expiry, is_of, without, placed, armed_at, armed, unlinked}
-use Rattle.queue_model.specs.Sweep.{due, fired, put_back, swept}
-use Rattle.queue_model.specs.Clock.{off, IsWithin, Covered, Sorted, Window, behind, ahead}
-use Rattle.queue_model.proofs.Offsets.{off-moved, off-lt, not_expired, later-within, covers}
-use Rattle.queue_model.proofs.Settles.{sorted-placed, covered-here, covered-there, covered-from}
+use Rattle.sched_base.proofs.Inserted.{all-inserted, all-filter}
+use Rattle.queue_model.specs.Ticks.{distance, is_set}
+use Rattle.queue_model.specs.WaitList.{WaitItem, WaitList, with_expiry, is_of, without, placed, armed_at, armed, unlinked}
+use Rattle.queue_model.specs.Clock.{off, IsWithin, Covered, Sorted, Window, ahead}
+use Rattle.queue_model.proofs.Offsets.{covers}
+use Rattle.queue_model.proofs.Settles.{sorted-placed, covered-here, covered-there}
 
 abbrev list_of : List WaitItem → List ℕ → WaitList
 list_of items es = record { items = items; expiries = es }
 
 pub not_zero : (t : ℕ) → is_set t ≡ true → t ≢ 0
-not_zero t h e = (let z : (t == 0) ≡ true = eq-eqb t 0 e in no_set (t == 0) z h)
-  where
-    no_set : (b : Bool) → b ≡ true → not b ≡ true → ⊥
-    no_set true e h = cc
-    no_set false e h = cc
+not_zero t h = eqb-false t 0 (not-true (t == 0) h)
 
 -- ---- an expiry that is unset
 

@@ -1,15 +1,14 @@
 -- A sweep leads from the window before it to the window after it, and the next tick back.
-use Rattle.std.proofs.Common.{◌≡◌, ◌≢◌, ℕ, ◌+◌, ◌-◌, ◌%◌, ◌^◌, ◌<◌, ◌≤◌, Bool, true, false, not, ◌&&◌, ◌==◌, ◌⊎◌, inl, inr, List, [], ◌∷◌, map, fold, get_or, set, refl, sym, ap, ◌∙◌, arith, subst, eqb-true}
+use Rattle.std.proofs.Common.{◌≡◌, ◌≢◌, ℕ, ◌+◌, ◌-◌, ◌%◌, ◌^◌, ◌<◌, ◌≤◌, Bool, true, not, ◌&&◌, ◌⊎◌, inl, inr, List, [], ◌∷◌, map, fold, refl, sym, ap, ◌∙◌, arith, subst}
 use Rattle.std.specs.List.{AllByRecursion, filter}
-use Rattle.std.proofs.lemmas.Bool.{cases_Bool, false≢true}
-use Rattle.sched_base.specs.KeyedList.{inserted}
+use Rattle.std.proofs.lemmas.Bool.{cases_Bool, false≢true, and_parts, not-true}
 use Rattle.sched_base.proofs.Inserted.{all-inserted, all-filter, all-weaker, all-both, all-map, filter-passes}
 use Rattle.queue_model.specs.Ticks.{is_set, is_expired}
 use Rattle.queue_model.specs.WaitList.{WaitItem, WaitList, expiry_of, with_expiry, placed}
 use Rattle.queue_model.specs.Sweep.{due, fired, put_back, swept}
 use Rattle.queue_model.specs.Clock.{off, IsWithin, Covered, Sorted, Window, behind, ahead}
 use Rattle.queue_model.proofs.Clock.{not_zero, unset-other, ends_same, sorted-filter}
-use Rattle.queue_model.proofs.Offsets.{off-moved, off-lt, not_expired}
+use Rattle.queue_model.proofs.Offsets.{off-moved, not_expired}
 use Rattle.queue_model.proofs.Settles.{sorted-placed, covered-here, covered-there, covered-from}
 
 -- ---- a sweep
@@ -80,21 +79,13 @@ covered-back now l (j ∷ js) ys i h =
       | inr more ↦ covered-back now l js (placed now j (expiry_of l j) ys) i more
     ]
 
-both_true : (a b : Bool) → (a && b) ≡ true → (a ≡ true) × (b ≡ true)
-both_true true b h = (refl, h)
-both_true false b h = absurd (false≢true h)
-
-not_so : (b : Bool) → not b ≡ true → b ≡ false
-not_so true h = absurd (false≢true h)
-not_so false h = refl
-
 -- a task that is due and whose expiry is set and not reached
 back_within : (now : ℕ) (l : WaitList) (i : ℕ) → Window behind now l → (is_set (expiry_of l i) && not (is_expired (expiry_of l i) now)) ≡ true → IsWithin ahead now (expiry_of l i)
 back_within now l i h p =
-    let parts = both_true (is_set (expiry_of l i)) (not (is_expired (expiry_of l i) now)) p in
+    let parts = and_parts (is_set (expiry_of l i)) (not (is_expired (expiry_of l i) now)) p in
     let some = not_zero (expiry_of l i) parts.0 in
     let e = h.ends i parts.0 in
-    (some, e.0, not_expired (expiry_of l i) now some (not_so (is_expired (expiry_of l i) now) parts.1), e.1)
+    (some, e.0, not_expired (expiry_of l i) now some (not-true (is_expired (expiry_of l i) now) parts.1), e.1)
 
 -- an expiry that is set, and not one of those that fired, is covered after the sweep
 swept-covered : (now : ℕ) (l : WaitList) (i : ℕ) → Window behind now l → is_set (expiry_of l i) ≡ true → AllByRecursion (λ j. i ≢ j) (fired now l) → Covered now i (expiry_of l i) (swept now l).items
@@ -114,7 +105,7 @@ swept-covered now l i h is apart =
 
 -- an item that stays in its place lies ahead
 stays_ahead : (now key : ℕ) → IsWithin behind now key → not (is_expired key now) ≡ true → IsWithin ahead now key
-stays_ahead now key h p = (h.0, h.1, not_expired key now h.0 (not_so (is_expired key now) p), h.3)
+stays_ahead now key h p = (h.0, h.1, not_expired key now h.0 (not-true (is_expired key now) p), h.3)
 
 pub window-swept : (now : ℕ) (l : WaitList) → Window behind now l → Window ahead now (swept now l)
 window-swept now l h =

@@ -1,5 +1,6 @@
 pub mod Clock
 pub mod ClockMoved
+pub mod ItemTasks
 pub mod Offsets
 pub mod Settles
 pub mod SweepSteps

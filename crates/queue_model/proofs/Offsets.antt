@@ -1,9 +1,9 @@
 -- Ticks by their distance from a tick, counted from half the circle before it on.
-use Rattle.std.proofs.Common.{◌≡◌, ◌≢◌, ℕ, ◌+◌, ◌-◌, ◌%◌, ◌^◌, ◌<◌, ◌≤◌, Bool, true, false, not, ◌==◌, if◌then◌else◌, arith, refl, inl, inr, ◌≤ℤ◌, ◌<ℤ◌, pos, negsuc, ◌+ℤ◌, eqb-true, eq-eqb, ne_eqb}
+use Rattle.std.proofs.Common.{◌≡◌, ◌≢◌, ℕ, ◌+◌, ◌-◌, ◌%◌, ◌^◌, ◌<◌, ◌≤◌, Bool, true, false, ◌==◌, if◌then◌else◌, arith, refl, ◌≤ℤ◌, ◌<ℤ◌, pos, negsuc, ◌+ℤ◌, eqb-true, ne_eqb}
 use Rattle.std.specs.Prelude.{ℤ, int_le, int_lt}
-use Rattle.std.proofs.lemmas.Bool.{cases_Bool, eqb-false}
+use Rattle.std.proofs.lemmas.Bool.{eqb-false}
 use Rattle.std.proofs.lemmas.Int.{ints}
-use Rattle.queue_model.specs.Ticks.{distance, is_set, is_expired, later}
+use Rattle.queue_model.specs.Ticks.{distance, is_expired, later}
 use Rattle.queue_model.specs.Window.{IsNear}
 use Rattle.queue_model.specs.Clock.{off, IsWithin, behind, ahead}
 use Rattle.queue_model.proofs.Settles.{off_is}
@@ -15,13 +15,6 @@ off-moved T t d U h g le e = omega arith
 
 pub off-lt : (t now : ℕ) → off t now < 2 ^ 32
 off-lt t now = omega arith
-
-set_is : (t : ℕ) → is_set t ≡ true → t ≢ 0
-set_is t h e = (let z : (t == 0) ≡ true = eq-eqb t 0 e in not_set (t == 0) z h)
-  where
-    not_set : (b : Bool) → b ≡ true → not b ≡ true → ⊥
-    not_set true e h = cc
-    not_set false e h = cc
 
 -- a tick that is set and not yet reached lies ahead
 expired_if : (zero : Bool) (late : Bool) → (if zero then false else late) ≡ false → zero ≡ false → late ≡ false

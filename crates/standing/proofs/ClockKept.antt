@@ -1,14 +1,13 @@
 -- The window of each worker's timers is kept by each call, each round and each next tick.
-use Rattle.std.proofs.Common.{◌≡◌, ◌≢◌, ℕ, zero, suc, ◌+◌, ◌-◌, ◌%◌, ◌^◌, ◌<◌, ◌≤◌, Bool, true, false, not, ◌&&◌, ◌==◌, if◌then◌else◌, ◌⊎◌, inl, inr, List, [], ◌∷◌, ◌++◌, map, fold, take, Option, None, Some, length, get_or, refl, sym, ap, ◌∙◌, arith, subst, IsTrue, unwrap_or, ne_eqb, replicate}
+use Rattle.std.proofs.Common.{◌≡◌, ℕ, zero, suc, ◌+◌, ◌%◌, ◌^◌, ◌<◌, ◌≤◌, Bool, true, false, ◌==◌, if◌then◌else◌, List, [], ◌∷◌, ◌++◌, map, fold, take, Option, None, Some, length, get_or, refl, sym, ap, ◌∙◌, arith, subst, IsTrue, unwrap_or, ne_eqb}
 use Rattle.std.specs.Prelude.{int_le}
 use Rattle.std.specs.List.{AllByRecursion, flat_map, range_with_len}
-use Rattle.std.proofs.lemmas.Bool.{cases_Bool, cases_eq}
 use Rattle.sched_base.specs.declared.names.CallerId.{CallerId}
 use Rattle.sched_base.proofs.Inserted.{all-append}
 use Rattle.queue_model.specs.Classes.{Next}
 use Rattle.queue_model.specs.Settle.{settled}
 use Rattle.queue_model.specs.Ticks.{distance, is_set, later}
-use Rattle.queue_model.specs.WaitList.{WaitItem, WaitList, expiry_of, with_expiry}
+use Rattle.queue_model.specs.WaitList.{WaitItem, WaitList, expiry_of}
 use Rattle.queue_model.specs.Sweep.{fired, swept}
 use Rattle.queue_model.specs.Clock.{off, IsWithin, Window, behind, ahead}
 use Rattle.queue_model.proofs.Clock.{window-never, window-unlinked, window-armed}
@@ -30,22 +29,20 @@ use Rattle.run_model.specs.Versions.{is_second}
 use Rattle.run_model.specs.Replies.{is_rest, is_killed, has_reasons, takes_in, members}
 use Rattle.run_model.specs.Run.{Round}
 use Rattle.run_model.specs.Lawful.{RoundOf}
-use Rattle.run_model.specs.Tables.{home_of, row_at, row_number, row_by, target, groups, actions_in}
-use Rattle.run_model.specs.Book.{Book, queued, queued_all, taken_from, untimed, timed, row_ended}
-use Rattle.run_model.specs.Standing.{Standing, opening, book_at, blank_book, turn_ended, first_key, first_keys, earlier_of, earliest, jumps, next_tick}
-use Rattle.turn_steps.specs.Left.{Onward, by_draw, next_in, spent_in, Left, gets, wakes, runs, acts, posts, drops, retires, returns, drawn, injects, carries, over, Stage, stage, at_runs, at_wakes, at_gets, at_acts, at_events, waked, handed, acted, run_begun, taken, returned, dropped_live, dropped_as, injected, asked_in, heard_in, draws_now, draws_now_in, drew, went, MayCall}
-use Rattle.turn_steps.specs.Has.{caller}
+use Rattle.run_model.specs.Tables.{home_of, row_number, row_by, target, groups, actions_in}
+use Rattle.run_model.specs.Book.{Book, queued, queued_all, taken_from, timed}
+use Rattle.run_model.specs.Standing.{Standing, opening, book_at, blank_book, first_key, first_keys, earlier_of, earliest, jumps, next_tick}
+use Rattle.turn_steps.specs.Left.{Onward, by_draw, next_in, spent_in, Left, gets, wakes, runs, acts, posts, drops, retires, returns, drawn, injects, carries, over, Stage, stage, at_wakes, at_gets, at_acts, at_events, waked, handed, acted, run_begun, taken, returned, dropped_live, dropped_as, injected, asked_in, heard_in, draws_now_in, went, MayCall}
 use Rattle.turn_steps.specs.Counts.{is_injectors}
 use Rattle.turn_steps.specs.Ranges.{IsFit}
 use Rattle.turn_steps.proofs.Asked.{by_ask}
 use Rattle.turn_steps.proofs.Fit.{sound_parts, within-parts, at_row, row_parts}
 use Rattle.standing.specs.Keeps.{Callers}
-use Rattle.standing.specs.Going.{called, IsNext, Going, gone_on}
+use Rattle.standing.specs.Going.{called, Going, gone_on}
 use Rattle.standing.specs.Between.{KeepsBetween, entered, round_takes}
-use Rattle.standing.specs.Clock.{DelayIn, WindowOf, InWindow, KeepsClock, ClockBefore, ClockAfter, DelaysAreIn}
+use Rattle.standing.specs.Clock.{DelayIn, InWindow, KeepsClock, ClockBefore, ClockAfter, DelaysAreIn}
 use Rattle.standing.proofs.Enter.{entered_each, Keeps-entered}
-use Rattle.standing.proofs.Homes.{wait-queued, wait-queued_all}
-use Rattle.standing.proofs.Merge.{Made}
+use Rattle.turn_steps.proofs.Measure.{wait-queued, wait-queued_all}
 use Rattle.standing.proofs.Opening.{blank_at}
 use Rattle.standing.proofs.Rounds.{made-round, left_after}
 use Rattle.standing.proofs.Steps.{at_each, Keeps-going}
@@ -288,6 +285,7 @@ clock-opening s k lt =
     zeros zero i = refl
     zeros (suc n) zero = refl
     zeros (suc n) (suc i) = zeros n i
+
     blank_window : (T n : ℕ) → Window behind T (blank_book n).wait
     blank_window T n = record {
       keys = tt;

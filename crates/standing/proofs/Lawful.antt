@@ -1,7 +1,9 @@
 -- The laws, from the lemmas.
-use Rattle.std.proofs.Common.{◌++◌}
+use Rattle.std.proofs.Common.{◌≡◌, ℕ, ◌+◌, ◌*◌, ◌^◌, ◌<◌, ◌≤◌, ◌++◌, arith, subst}
+use Rattle.std.proofs.Math.Nat.{mul-le-mul_right}
+use Rattle.run_model.specs.Standing.{opening}
 use Rattle.turn_steps.proofs.Fit.{IsFit-sound}
-use Rattle.standing.specs.Between.{entered}
+use Rattle.standing.specs.Between.{entered, round_takes}
 use Rattle.standing.specs.Firm.{Firm}
 use Rattle.standing.specs.Laws.{RoundsKeep, NextCallsAreAllowed, RunsCanGoOn, RoundsAreCalls, CallersHear, RunsStandFirm, TakesAreTold, RunsTellReasons}
 use Rattle.standing.proofs.Enter.{Keeps-entered}
@@ -47,8 +49,17 @@ callers_hear_all = record { owns = Owns-told; gives = can_give-owns }
 
 pub runs_firm : RunsStandFirm
 runs_firm s rounds q U st sound passes =
-    let f = firm-passes s 0 0 s.start (opening s) rounds q U st sound (firm-opening s sound) passes in
-    (f.count, f.firm)
+    let t = takes-sound s sound in
+    let f = firm-passes s 0 0 s.start (opening s) rounds q U st sound t.0 (firm-opening s sound) passes in
+    let same : f.count ≡ q = omega (arith, f.rounds) in
+    let none : 0 + f.count * round_takes s ≡ q * round_takes s = rw same (omega arith) in
+    (f.below, has_room (round_takes s) q s.rounds f.below t.1, subst (λ (n : ℕ). Firm s U n st) none f.firm)
+  where
+    has_room : (t q all : ℕ) → q < all → all * t < 2 ^ 48 → q * t + t < 2 ^ 48
+    has_room t q all lt h =
+        let below : q + 1 ≤ all = omega arith in
+        let le : (q + 1) * t ≤ all * t = mul-le-mul_right t below in
+        omega arith
 
 pub takes_all : TakesAreTold
 takes_all s T w i c es sound keeps lt home going live =

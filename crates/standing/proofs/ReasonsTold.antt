@@ -1,22 +1,20 @@
 -- Each lawful run tells each take's reasons.
-use Rattle.std.proofs.Common.{◌≡◌, ℕ, ◌+◌, ◌==◌, Bool, true, false, if◌then◌else◌, List, [], ◌∷◌, ◌++◌, length, map, inl, inr, refl, sym, ap, ◌∙◌, arith, subst, MatchBool}
+use Rattle.std.proofs.Common.{◌≡◌, ℕ, ◌+◌, ◌==◌, Bool, true, false, if◌then◌else◌, List, [], ◌∷◌, length, map, inl, inr, refl, arith, subst, MatchBool}
 use Rattle.std.specs.List.{flat_map}
 use Rattle.std.proofs.lemmas.Bool.{cases_lt}
 use Rattle.std.proofs.lemmas.List.{get_or_past, get_or-map, length-map}
 use Rattle.step_tables.specs.declared.tables.Script.{Script}
-use Rattle.step_tables.specs.declared.tables.TaskDef.{TaskDef}
-use Rattle.task_machine.specs.declared.task.TaskState.{TaskState}
 use Rattle.task_machine.specs.declared.calls.Entry.{Entry}
 use Rattle.task_machine.specs.Task.{resting, seated}
-use Rattle.task_machine.specs.Step.{State, task_at}
-use Rattle.task_machine.specs.History.{Legal, led}
+use Rattle.task_machine.specs.Step.{State}
+use Rattle.task_machine.specs.History.{Legal}
 use Rattle.task_machine.specs.Since.{OpensAs, IsOpening, TakesTell}
 use Rattle.task_machine.proofs.Histories.{Legal-append}
 use Rattle.task_machine.proofs.Reasons.{TakesTell-legal}
 use Rattle.run_model.specs.Run.{Round, Run}
-use Rattle.run_model.specs.Lawful.{RoundOf, Goes, LawfulRun}
+use Rattle.run_model.specs.Lawful.{Goes, LawfulRun}
 use Rattle.run_model.specs.Standing.{Standing, opened, opening, next_tick, is_at_rest}
-use Rattle.run_model.specs.Tables.{blank_task, def_of, home_of, home_in}
+use Rattle.run_model.specs.Tables.{blank_task, def_of, home_of}
 
 opens : (init : Bool) (b : ℕ) → OpensAs init (if init then seated b resting else resting)
 opens true b = (b, refl)

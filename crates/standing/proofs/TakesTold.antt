@@ -1,6 +1,5 @@
 -- The takes of a live task of a worker are those before and those among the worker's own calls.
-use Rattle.std.proofs.Common.{◌≡◌, ◌≢◌, ℕ, ◌+◌, ◌<◌, ◌≤◌, Bool, true, false, ◌||◌, ◌==◌, if◌then◌else◌, ◌⊎◌, inl, inr, List, [], ◌∷◌, length, Option, None, Some, refl, sym, ap, ◌∙◌, arith, subst, eqb-true, eq-eqb, bit_or}
-use Rattle.std.specs.List.{filter}
+use Rattle.std.proofs.Common.{◌≡◌, ℕ, ◌+◌, ◌<◌, Bool, true, false, ◌==◌, if◌then◌else◌, ◌⊎◌, inl, inr, List, [], ◌∷◌, Option, None, Some, refl, sym, ap, ◌∙◌, arith, subst, eqb-true, eq-eqb, bit_or}
 use Rattle.std.proofs.lemmas.Bool.{cases_Bool, cases_eq}
 use Rattle.sched_base.specs.declared.names.CallerId.{CallerId}
 use Rattle.queue_model.specs.Classes.{Next}
@@ -13,23 +12,23 @@ use Rattle.task_machine.specs.declared.task.TaskState.{TaskState}
 use Rattle.task_machine.specs.declared.calls.Call.{Call}
 use Rattle.task_machine.specs.declared.calls.Call.TheVariants as calls
 use Rattle.task_machine.specs.declared.calls.Entry.{Entry}
-use Rattle.task_machine.specs.Task.{is_busy, is_gone, put, in_hands, in_draw, in_run, is_boxed, raised, woken, flagged, got}
+use Rattle.task_machine.specs.Task.{is_gone, put, is_boxed, raised}
 use Rattle.task_machine.specs.Step.{State, task_at, is_about, needs, changed, bit, Allowed}
 use Rattle.task_machine.specs.History.{stepped, calls_of}
 use Rattle.task_machine.specs.Since.{is_take}
-use Rattle.task_machine.proofs.Reasons.{held_not_gone, boxed_not_gone, run_not_gone}
+use Rattle.task_machine.proofs.Reasons.{boxed_not_gone}
+use Rattle.run_model.proofs.Readings.{some_inj}
 use Rattle.run_model.specs.Tables.{home_of, call_of}
 use Rattle.run_model.specs.Book.{Book}
 use Rattle.turn_steps.specs.Left.{Onward, next_in, Left, gets, wakes, runs, acts, posts, drops, retires, returns, drawn, injects, carries, over, Stage, stage, take_call, asked_in, MayCall}
 use Rattle.turn_steps.proofs.Books.{listed-taken}
 use Rattle.standing.specs.Keeps.{Callers}
-use Rattle.standing.specs.Going.{called, IsNext, Going, gone_on}
+use Rattle.standing.specs.Going.{called, Going, gone_on}
 use Rattle.standing.specs.Homes.{IsOf, Homed, KeepsHomes, TimersHaveHomes}
 use Rattle.standing.specs.Laws.{takes_by}
-use Rattle.standing.proofs.Effects.{by_step, fits_about}
+use Rattle.standing.proofs.Effects.{by_step, fits_about, is_of, of_held, of_taken, of_run}
 use Rattle.standing.proofs.HomesKept.{KeepsHomes-next}
 use Rattle.standing.proofs.Merge.{own_calls, other_calls}
-use Rattle.standing.proofs.OwnsKept.{some_same}
 
 -- where a task is not gone after a change, it was not before, and has at most one take more
 abbrev Takes : ℕ → TaskState → TaskState → Type 0
@@ -43,23 +42,23 @@ got_takes : (k : CallerId) (t : TaskState) (here : Bool) → is_boxed k.0 t.plac
 got_takes k t true e = λ h. (boxed_not_gone k.0 t.place e, omega arith)
 got_takes k t false e = λ h. (h, omega arith)
 
-take_not_gone : (k : CallerId) (p : Place) → (in_hands k p || in_draw k p) ≡ true → is_gone p ≡ false
-take_not_gone k places.Rest h = refl
-take_not_gone k (places.Hands j) h = refl
-take_not_gone k (places.Boxed b) h = refl
-take_not_gone k (places.Drawn j) h = refl
-take_not_gone k (places.Runs j) h = refl
-take_not_gone k places.Gone h = cc
+of_not_gone : (k : CallerId) (p : Place) → is_of k p ≡ true → is_gone p ≡ false
+of_not_gone k places.Rest h = refl
+of_not_gone k (places.Hands j) h = refl
+of_not_gone k (places.Boxed b) h = refl
+of_not_gone k (places.Drawn j) h = refl
+of_not_gone k (places.Runs j) h = refl
+of_not_gone k places.Gone h = cc
 
 changed-takes : (w : ℕ) (k : CallerId) (c : Call) (i : ℕ) (t : TaskState) → is_about i c ≡ true → needs w k c t.place ≡ true → Takes (bit (is_take i c)) t (changed k c t)
 changed-takes w k (calls.Wake j f) i t about fit =
     takes_if 0 (is_gone t.place) t (record t { place = raised k t.place; pending = bit_or t.pending f }) refl (omega arith) refl
 changed-takes w k (calls.Kill j) i t about fit = takes_if 0 (is_gone t.place) t (record t { place = raised k t.place; killed = true }) refl (omega arith) refl
-changed-takes w k (calls.Post j b) i t about fit = λ h. (held_not_gone k t.place fit, omega arith)
+changed-takes w k (calls.Post j b) i t about fit = λ h. (of_not_gone k t.place (of_held k t.place fit), omega arith)
 changed-takes w k (calls.Get g) i t about fit = got_takes k t (is_boxed k.0 t.place) refl
 changed-takes w k (calls.Draw j) i t about fit = λ h. (boxed_not_gone w t.place fit, omega arith)
-changed-takes w k (calls.Take j) i t about fit = λ h. (take_not_gone k t.place fit, ap (λ b. t.takes + bit b) (sym about))
-changed-takes w k (calls.DropRun j) i t about fit = λ h. (run_not_gone k t.place fit, omega arith)
+changed-takes w k (calls.Take j) i t about fit = λ h. (of_not_gone k t.place (of_taken k t.place fit), ap (λ b. t.takes + bit b) (sym about))
+changed-takes w k (calls.DropRun j) i t about fit = λ h. (of_not_gone k t.place (of_run k t.place fit), omega arith)
 changed-takes w k (calls.Retire j) i t about fit = λ h. absurd (let no = h in cc)
 
 apart_take : (i : ℕ) (c : Call) → is_about i c ≡ false → is_take i c ≡ false
@@ -87,12 +86,12 @@ action_take i (Wakes j f) = refl
 action_take i (Kills j) = refl
 
 none_taken : (s : Script) (k i : ℕ) (d c : Call) → is_take i d ≡ false → Some d ≡ Some c → TakenHome s k i c
-none_taken s k i d c none e = λ h. absurd (let same : is_take i d ≡ is_take i c = ap (is_take i) (some_same d c e) in cc)
+none_taken s k i d c none e = λ h. absurd (let same : is_take i d ≡ is_take i c = ap (is_take i) (some_inj d c e) in cc)
 
 next_home : (s : Script) (k i : ℕ) (q : Onward) (b : Book) (o : Option Next) (c : Call) → Homed s k (stage (runs q) b) → next_in q b ≡ o → take_call o ≡ Some c → TakenHome s k i c
 next_home s k i q b None c h e asks = cc
 next_home s k i q b (Some x) c h e asks = λ take.
-    let call : calls.Take (record { 0 = x.task }) ≡ c = some_same (calls.Take (record { 0 = x.task })) c asks in
+    let call : calls.Take (record { 0 = x.task }) ≡ c = some_inj (calls.Take (record { 0 = x.task })) c asks in
     let is : (i == x.task) ≡ true = ap (is_take i) call ∙ take in
     let same = eqb-true i x.task is in
     let one : bit (x.task == x.task) ≡ 1 = ap bit (eq-eqb x.task x.task refl) in
@@ -109,7 +108,7 @@ asked_home s k i (drops j q) b c h e = none_taken s k i _ c refl e
 asked_home s k i (retires held j q) b c h e = none_taken s k i _ c refl e
 asked_home s k i (returns j q) b c h e = none_taken s k i _ c refl e
 asked_home s k i (drawn j n) b c h e = λ take.
-    let call : calls.Take (record { 0 = j }) ≡ c = some_same (calls.Take (record { 0 = j })) c e in
+    let call : calls.Take (record { 0 = j }) ≡ c = some_inj (calls.Take (record { 0 = j })) c e in
     let is : (i == j) ≡ true = ap (is_take i) call ∙ take in
     inr (subst (IsOf s s.workers) (sym (eqb-true i j is)) h.left)
 asked_home s k i (injects a more) b c h e = none_taken s k i (call_of a) c (action_take i a) e

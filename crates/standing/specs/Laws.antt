@@ -53,11 +53,12 @@ RoundsAreCalls =
     (s : Script) (r T limit : ℕ) (old new : Standing) (es more : List Entry) → KeepsBetween s limit old →
     RoundOf s r T old (record { tick = T; entries = es ++ more }) new → Going s T (entered s r T old) es
 
--- all that stands together before a round holds at the opening and after whole rounds
+-- all that stands together before a round holds at the opening and after whole rounds, and no task can be taken too often
+-- in the next one
 abbrev pub RunsStandFirm : Type 0
 RunsStandFirm =
-    (s : Script) (rounds : List Round) (q U : ℕ) (st : Standing) → IsTrue (is_sound s) →
-    Passes s 0 s.start (opening s) rounds q U st → (n : ℕ) × Firm s U (n * round_takes s) st
+    (s : Script) (rounds : List Round) (q U : ℕ) (st : Standing) → IsTrue (is_sound s) → Passes s 0 s.start (opening s) rounds q U st →
+    (q < s.rounds) × (q * round_takes s + round_takes s < 2 ^ 48) × Firm s U (q * round_takes s) st
 
 -- in each legal history in which a caller's own calls follow its part, whatever the others do, it has what its part says;
 -- and each reply that the machine can then give it is one that its part can hear
