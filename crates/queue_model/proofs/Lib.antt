@@ -1,3 +1,7 @@
+pub mod Clock
+pub mod ClockMoved
+pub mod ItemTasks
+pub mod Offsets
 pub mod Settles
 pub mod SweepSteps
 pub mod Walk

@@ -1,9 +1,9 @@
 -- A settled list is one whose first item stands at its expiry, and settling keeps the window.
-use Rattle.std.proofs.Common.{◌≡◌, ◌≢◌, ℕ, zero, suc, ◌+◌, ◌-◌, ◌%◌, ◌^◌, ◌≤◌, ◌<◌, Bool, true, false, cond, not, eqb, List, [], ◌∷◌, length, get_or, refl, sym, ap, subst, ◌∙◌, arith, ◌⊎◌, inl, inr, eqb-true, eq-eqb, ◌≤ℤ◌, ◌<ℤ◌, pos, ◌+ℤ◌}
+use Rattle.std.proofs.Common.{◌≡◌, ◌≢◌, ℕ, zero, suc, ◌+◌, ◌-◌, ◌%◌, ◌^◌, ◌≤◌, ◌<◌, Bool, true, false, cond, eqb, List, [], ◌∷◌, length, get_or, refl, sym, ap, subst, ◌∙◌, arith, inl, inr, eqb-true, eq-eqb, ◌≤ℤ◌, ◌<ℤ◌, pos, ◌+ℤ◌}
 use Rattle.std.specs.Prelude.{ℤ, int_le}
 use Rattle.std.specs.List.{AllByRecursion}
 use Rattle.std.proofs.lemmas.Int.{ints}
-use Rattle.std.proofs.lemmas.Bool.{cases_Bool, false≢true, eqb-false, not-true, not-false}
+use Rattle.std.proofs.lemmas.Bool.{cases_Bool, false≢true, eqb-false, not-true}
 use Rattle.sched_base.specs.KeyedList.{inserted}
 use Rattle.sched_base.proofs.Inserted.{all-inserted, all-weaker}
 use Rattle.queue_model.specs.Ticks.{distance, is_set}

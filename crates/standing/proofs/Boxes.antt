@@ -8,11 +8,11 @@ use Rattle.task_machine.specs.declared.task.TaskState.{TaskState}
 use Rattle.task_machine.specs.declared.calls.Call.{Call}
 use Rattle.task_machine.specs.declared.calls.Call.TheVariants as calls
 use Rattle.task_machine.specs.declared.calls.Entry.{Entry}
-use Rattle.task_machine.specs.Task.{is_busy, put, in_hands, in_draw, in_run, is_boxed, raised}
+use Rattle.task_machine.specs.Task.{is_busy, put, is_boxed, raised}
 use Rattle.task_machine.specs.Step.{State, task_at, is_about, is_named, needs, changed, Allowed}
 use Rattle.task_machine.specs.History.{stepped, Legal, led}
 use Rattle.run_model.specs.Standing.{is_draw_of, was_drawn}
-use Rattle.standing.proofs.Effects.{by_step, fits_about, place-woken, place-flagged}
+use Rattle.standing.proofs.Effects.{by_step, fits_about, place-woken, place-flagged, is_of, of_held, of_taken, of_run}
 
 boxed_raised : (k : CallerId) (b : ℕ) (p : Place) → is_boxed b (raised k p) ≡ is_boxed b p
 boxed_raised k b places.Rest = refl
@@ -23,25 +23,13 @@ boxed_raised k b (places.Runs j) = refl
 boxed_raised k b places.Gone = refl
 
 -- what a caller has is in no box
-not_in_box : (k : CallerId) (b : ℕ) (p : Place) → (in_hands k p || (in_draw k p || in_run k p)) ≡ true → is_boxed b p ≡ false
+not_in_box : (k : CallerId) (b : ℕ) (p : Place) → is_of k p ≡ true → is_boxed b p ≡ false
 not_in_box k b places.Rest h = refl
 not_in_box k b (places.Hands j) h = refl
 not_in_box k b (places.Boxed c) h = cc
 not_in_box k b (places.Drawn j) h = refl
 not_in_box k b (places.Runs j) h = refl
 not_in_box k b places.Gone h = refl
-
-held_in_any : (k : CallerId) (p : Place) → in_hands k p ≡ true → (in_hands k p || (in_draw k p || in_run k p)) ≡ true
-held_in_any k p h = rw h refl
-
-taken_in_any : (a b c : Bool) → (a || b) ≡ true → (a || (b || c)) ≡ true
-taken_in_any true b c h = refl
-taken_in_any false b c h = rw h refl
-
-run_in_any : (a b c : Bool) → c ≡ true → (a || (b || c)) ≡ true
-run_in_any true b c h = refl
-run_in_any false true c h = refl
-run_in_any false false c h = h
 
 -- a place is one box at most
 one_box : (b c : ℕ) (p : Place) → is_boxed b p ≡ true → is_boxed c p ≡ true → b ≡ c
@@ -65,14 +53,14 @@ stays-changed : (s : State) (k : CallerId) (c : Call) (i : ℕ) (t : TaskState) 
 stays-changed s k (calls.Wake j f) i t about named fit d h = rw (place-woken k f t, boxed_raised k s.workers t.place) h
 stays-changed s k (calls.Kill j) i t about named fit d h = rw (place-flagged k t, boxed_raised k s.workers t.place) h
 stays-changed s k (calls.Post j b) i t about named fit d h =
-    let no = not_in_box k s.workers t.place (held_in_any k t.place fit) in cc
+    let no = not_in_box k s.workers t.place (of_held k t.place fit) in cc
 stays-changed s k (calls.Get g) i t about named fit d h =
     got_stays k s.workers t (is_boxed k.0 t.place) refl (not_shared s k g named) h
 stays-changed s k (calls.Draw j) i t about named fit d h = cc
 stays-changed s k (calls.Take j) i t about named fit d h =
-    let no = not_in_box k s.workers t.place (taken_in_any (in_hands k t.place) (in_draw k t.place) (in_run k t.place) fit) in cc
+    let no = not_in_box k s.workers t.place (of_taken k t.place fit) in cc
 stays-changed s k (calls.DropRun j) i t about named fit d h =
-    let no = not_in_box k s.workers t.place (run_in_any (in_hands k t.place) (in_draw k t.place) (in_run k t.place) fit) in cc
+    let no = not_in_box k s.workers t.place (of_run k t.place fit) in cc
 stays-changed s k (calls.Retire j) i t about named fit d h =
     let no = not_in_box k s.workers t.place fit in cc
 

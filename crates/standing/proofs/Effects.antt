@@ -58,9 +58,27 @@ place-flagged k t = flagged-at k t.place t.pending t.killed t.takes
 abbrev pub IsApart : CallerId → Place → Type 0
 IsApart k p = (in_hands k p ≡ false) × (in_draw k p ≡ false) × (in_run k p ≡ false)
 
--- whether caller j has the task in some way
-abbrev is_of : CallerId → Place → Bool
+-- whether caller j has the task in some way, as a retirement needs it; each way is one
+abbrev pub is_of : CallerId → Place → Bool
 is_of j p = in_hands j p || (in_draw j p || in_run j p)
+
+pub of_held : (j : CallerId) (p : Place) → in_hands j p ≡ true → is_of j p ≡ true
+of_held j p h = rw h refl
+
+pub of_taken : (j : CallerId) (p : Place) → (in_hands j p || in_draw j p) ≡ true → is_of j p ≡ true
+of_taken j p h = or_more (in_hands j p) (in_draw j p) (in_run j p) h
+  where
+    or_more : (a b c : Bool) → (a || b) ≡ true → (a || (b || c)) ≡ true
+    or_more true b c h = refl
+    or_more false b c h = rw h refl
+
+pub of_run : (j : CallerId) (p : Place) → in_run j p ≡ true → is_of j p ≡ true
+of_run j p h = rw h (or_last (in_hands j p) (in_draw j p))
+  where
+    or_last : (a b : Bool) → (a || (b || true)) ≡ true
+    or_last true b = refl
+    or_last false true = refl
+    or_last false false = refl
 
 other : (k i j : ℕ) → k ≢ j → (j == i) ≡ true → (k == i) ≡ false
 other k i j ne e = ne_eqb k i (λ same. ne (same ∙ sym (eqb-true j i e)))
@@ -93,18 +111,6 @@ apart-dropped : (k j : CallerId) (busy : Bool) → k.0 ≢ j.0 → IsApart k (if
 apart-dropped k j true ne = (ne_eqb k.0 j.0 ne, refl, refl)
 apart-dropped k j false ne = (refl, refl, refl)
 
-or_left : (a b : Bool) → a ≡ true → (a || b) ≡ true
-or_left a b h = rw h refl
-
-or_take : (a b c : Bool) → (a || b) ≡ true → (a || (b || c)) ≡ true
-or_take true b c h = refl
-or_take false b c h = rw h refl
-
-or_last : (a b c : Bool) → c ≡ true → (a || (b || c)) ≡ true
-or_last true b c h = refl
-or_last false true c h = refl
-or_last false false c h = h
-
 -- the place stays, or caller k has nothing of the task before and after
 abbrev StaysApart : CallerId → Place → Place → Type 0
 StaysApart k old new = (new ≡ old) ⊎ (IsApart k old × IsApart k new)
@@ -126,13 +132,13 @@ changed-apart : (w : ℕ) (k j : CallerId) (c : Call) (t : TaskState) → k.0 �
 changed-apart w k j (calls.Wake i f) t ne fit = rw (place-woken j f t) (raised-apart k j t.place ne)
 changed-apart w k j (calls.Kill i) t ne fit = rw (place-flagged j t) (raised-apart k j t.place ne)
 changed-apart w k j (calls.Post i b) t ne fit =
-    inr (apart-of k j t.place ne (or_left (in_hands j t.place) (in_draw j t.place || in_run j t.place) fit), (refl, refl, refl))
+    inr (apart-of k j t.place ne (of_held j t.place fit), (refl, refl, refl))
 changed-apart w k j (calls.Get g) t ne fit = got-apart k j t (is_boxed j.0 t.place) refl ne
 changed-apart w k j (calls.Draw i) t ne fit = inr (apart-boxed k w t.place fit, (refl, ne_eqb k.0 j.0 ne, refl))
 changed-apart w k j (calls.Take i) t ne fit =
-    inr (apart-of k j t.place ne (or_take (in_hands j t.place) (in_draw j t.place) (in_run j t.place) fit), (refl, refl, ne_eqb k.0 j.0 ne))
+    inr (apart-of k j t.place ne (of_taken j t.place fit), (refl, refl, ne_eqb k.0 j.0 ne))
 changed-apart w k j (calls.DropRun i) t ne fit =
-    inr (apart-of k j t.place ne (or_last (in_hands j t.place) (in_draw j t.place) (in_run j t.place) fit), apart-dropped k j (is_busy t) ne)
+    inr (apart-of k j t.place ne (of_run j t.place fit), apart-dropped k j (is_busy t) ne)
 changed-apart w k j (calls.Retire i) t ne fit = inr (apart-of k j t.place ne fit, (refl, refl, refl))
 
 -- the place of a task after a step of another caller

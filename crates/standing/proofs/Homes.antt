@@ -1,30 +1,28 @@
 -- A caller lists, runs and times tasks of its own, whatever it hears.
-use Rattle.std.proofs.Common.{◌≡◌, ℕ, ◌<◌, Bool, true, false, ◌==◌, if◌then◌else◌, inl, inr, List, [], ◌∷◌, fold, Option, None, Some, refl, sym, ap, ◌∙◌, arith, eq-eqb, eqb-true, ne_eqb, subst, find}
+use Rattle.std.proofs.Common.{◌≡◌, ℕ, ◌<◌, Bool, true, false, ◌==◌, inl, inr, List, [], ◌∷◌, Option, None, Some, refl, sym, ap, arith, eq-eqb, eqb-true, ne_eqb, subst}
 use Rattle.std.specs.List.{AllByRecursion}
 use Rattle.std.proofs.lemmas.Bool.{cases_eq, cases_lt}
-use Rattle.sched_base.proofs.Inserted.{all-inserted, all-filter, all-map}
+use Rattle.queue_model.proofs.ItemTasks.{TimersOf, fired-of, swept-of, unlinked-of, armed-of}
 use Rattle.queue_model.specs.Classes.{Next}
-use Rattle.queue_model.specs.Ticks.{is_expired, is_set, later}
-use Rattle.queue_model.specs.WaitList.{WaitItem, WaitList, expiry_of, with_expiry, placed, armed_at, armed, is_of, without, unlinked}
-use Rattle.queue_model.specs.Sweep.{due, fired, put_back, swept}
+use Rattle.queue_model.specs.Ticks.{later}
+use Rattle.queue_model.specs.WaitList.{WaitList, with_expiry}
+use Rattle.queue_model.specs.Sweep.{fired, swept}
 use Rattle.step_tables.specs.declared.tables.Action.{Action}
 use Rattle.step_tables.specs.declared.tables.Expiry.{Expiry}
 use Rattle.step_tables.specs.declared.tables.Expiry.TheVariants.{Keep, After, Never}
-use Rattle.step_tables.specs.declared.tables.Kind.{Kind}
-use Rattle.step_tables.specs.declared.tables.Kind.TheVariants.{Pinned, Shared, Tasklet}
 use Rattle.step_tables.specs.declared.tables.Row.{Row}
 use Rattle.step_tables.specs.declared.tables.Script.{Script}
 use Rattle.task_machine.specs.declared.calls.Reply.{Reply}
 use Rattle.task_machine.specs.Step.{bit}
 use Rattle.run_model.specs.Replies.{is_rest, is_killed, has_reasons, takes_in, members}
-use Rattle.run_model.specs.Tables.{home_of, def_of, row_number, row_by, target}
-use Rattle.run_model.specs.Book.{Book, queued_as, queued, queued_all, filled, taken_from, untimed, timed}
+use Rattle.run_model.specs.Tables.{home_of, row_number, row_by, target}
+use Rattle.run_model.specs.Book.{Book, queued, queued_all, filled, taken_from, untimed, timed}
 use Rattle.turn_steps.specs.Left.{Onward, by_draw, next_in, spent_in, Left, gets, wakes, runs, acts, posts, drops, retires, returns, drawn, injects, carries, over, Stage, stage, at_runs, at_wakes, at_gets, at_acts, at_events, waked, handed, acted, run_begun, taken, returned, dropped_live, dropped_as, injected, heard_in, drew}
 use Rattle.turn_steps.specs.Times.{times, listed}
 use Rattle.turn_steps.specs.Has.{run_by}
+use Rattle.turn_steps.proofs.Measure.{wait-queued, wait-queued_all}
 use Rattle.turn_steps.proofs.Books.{listed-queued, listed-queued_all, listed-filled, listed-taken}
 use Rattle.standing.specs.Homes.{IsOf, MayRun, Timed, Homed, TimersHaveHomes}
-use Rattle.standing.proofs.Ended.{TimersOf}
 
 -- a fact of the tasks that a book lists
 abbrev pub ListsOf : (ℕ → Type 0) → Book → Type 0
@@ -75,61 +73,12 @@ lists-waked P s false j b here h = h
 
 -- ---- timers
 
--- what is due is among the items
-timers-due : (Q : ℕ → Type 0) (now : ℕ) (l : WaitList) → TimersOf Q l → AllByRecursion (λ (y : WaitItem). Q y.task) (due now l)
-timers-due Q now l h = all-filter (λ (y : WaitItem). Q y.task) (λ y. is_expired y.key now) l.items h
-
-pub fired-of : (Q : ℕ → Type 0) (now : ℕ) (l : WaitList) → TimersOf Q l → AllByRecursion Q (fired now l)
-fired-of Q now l h = all-map (λ y. y.task) Q _ (all-filter (λ (y : WaitItem). Q y.task) _ (due now l) (timers-due Q now l h))
-
-put_back-of : (Q : ℕ → Type 0) (now : ℕ) (l : WaitList) → TimersOf Q l → AllByRecursion Q (put_back now l)
-put_back-of Q now l h = all-map (λ y. y.task) Q _ (all-filter (λ (y : WaitItem). Q y.task) _ (due now l) (timers-due Q now l h))
-
--- tasks put in one after another
-placed_all : (Q : ℕ → Type 0) (now : ℕ) (l : WaitList) (is : List ℕ) (ys : List WaitItem) → AllByRecursion Q is → AllByRecursion (λ (y : WaitItem). Q y.task) ys → AllByRecursion (λ (y : WaitItem). Q y.task) (fold (λ ys i. placed now i (expiry_of l i) ys) ys is)
-placed_all Q now l [] ys h g = g
-placed_all Q now l (i ∷ is) ys h g =
-    placed_all Q now l is (placed now i (expiry_of l i) ys) h.1 (all-inserted (λ (y : WaitItem). Q y.task) _ _ ys h.0 g)
-
-pub swept-of : (Q : ℕ → Type 0) (now : ℕ) (l : WaitList) → TimersOf Q l → TimersOf Q (swept now l)
-swept-of Q now l h = placed_all Q now l (put_back now l) _ (put_back-of Q now l h) (all-filter (λ (y : WaitItem). Q y.task) _ l.items h)
-
-pub unlinked-of : (Q : ℕ → Type 0) (i : ℕ) (l : WaitList) → TimersOf Q l → TimersOf Q (unlinked i l)
-unlinked-of Q i l h = all-filter (λ (y : WaitItem). Q y.task) _ l.items h
-
-armed_if : (Q : ℕ → Type 0) (now i t : ℕ) (b : Bool) (items : List WaitItem) → Q i → AllByRecursion (λ (y : WaitItem). Q y.task) items → AllByRecursion (λ (y : WaitItem). Q y.task) (if b then placed now i t (without i items) else items)
-armed_if Q now i t true items here h = all-inserted (λ (y : WaitItem). Q y.task) _ _ (without i items) here (all-filter (λ (y : WaitItem). Q y.task) _ items h)
-armed_if Q now i t false items here h = h
-
-armed_at-of : (Q : ℕ → Type 0) (now i t : ℕ) (o : Option WaitItem) (items : List WaitItem) → Q i → AllByRecursion (λ (y : WaitItem). Q y.task) items → AllByRecursion (λ (y : WaitItem). Q y.task) (armed_at now i t o items)
-armed_at-of Q now i t None items here h = all-inserted (λ (y : WaitItem). Q y.task) _ _ items here h
-armed_at-of Q now i t (Some y) items here h = armed_if Q now i t _ items here h
-
-armed_set : (Q : ℕ → Type 0) (now i : ℕ) (set : Bool) (l : WaitList) → Q i → TimersOf Q l → TimersOf Q (if set then record l { items = armed_at now i (expiry_of l i) (find (is_of i) l.items) l.items } else l)
-armed_set Q now i true l here h = armed_at-of Q now i (expiry_of l i) (find (is_of i) l.items) l.items here h
-armed_set Q now i false l here h = h
-
-pub armed-of : (Q : ℕ → Type 0) (now i : ℕ) (l : WaitList) → Q i → TimersOf Q l → TimersOf Q (armed now i l)
-armed-of Q now i l here h = armed_set Q now i (is_set (expiry_of l i)) l here h
-
 pub timed-of : (Q : ℕ → Type 0) (T i : ℕ) (x : Expiry) (l : WaitList) → Timed x (Q i) → TimersOf Q l → TimersOf Q (timed T i x l)
 timed-of Q T i Keep l here h = h
 timed-of Q T i (After d) l here h = armed-of Q T i (with_expiry i (later T d) l) here h
 timed-of Q T i Never l here h = h
 
 -- ---- a book's timers, where tasks are queued
-
-kept_as : (kind : Kind) (s : Script) (i : ℕ) (b : Book) → (queued_as kind s i b).wait ≡ b.wait
-kept_as (Pinned home nice) s i b = refl
-kept_as (Shared nice) s i b = refl
-kept_as (Tasklet home class) s i b = refl
-
-wait-queued : (s : Script) (i : ℕ) (b : Book) → (queued s i b).wait ≡ b.wait
-wait-queued s i b = kept_as (def_of s i).kind s i b
-
-wait-queued_all : (s : Script) (ids : List ℕ) (b : Book) → (queued_all s ids b).wait ≡ b.wait
-wait-queued_all s [] b = refl
-wait-queued_all s (i ∷ ids) b = wait-queued_all s ids (queued s i b) ∙ wait-queued s i b
 
 book-queued : (s : Script) (k i : ℕ) (b : Book) → IsOf s k i → BookOf s k b → BookOf s k (queued s i b)
 book-queued s k i b here h =

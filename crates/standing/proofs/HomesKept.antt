@@ -1,5 +1,5 @@
 -- Homes are kept by each call and each round.
-use Rattle.std.proofs.Common.{◌≡◌, ℕ, ◌/◌, ◌<◌, Bool, true, false, inl, inr, List, [], ◌∷◌, length, Some, refl, sym, ap, ◌∙◌, arith, subst, IsTrue, eqb-true, ltb, ltb-true, get_or}
+use Rattle.std.proofs.Common.{◌≡◌, ℕ, ◌/◌, ◌<◌, true, inl, inr, List, [], ◌∷◌, length, Some, sym, ap, ◌∙◌, arith, subst, IsTrue, eqb-true, ltb, ltb-true, get_or}
 use Rattle.std.proofs.lemmas.Bool.{cases_eq}
 use Rattle.std.specs.List.{range_with_len}
 use Rattle.sched_base.specs.declared.names.CallerId.{CallerId}
@@ -14,8 +14,8 @@ use Rattle.task_machine.specs.declared.calls.Call.TheVariants as calls
 use Rattle.task_machine.specs.declared.calls.Reply.{Reply}
 use Rattle.task_machine.specs.declared.calls.Entry.{Entry}
 use Rattle.task_machine.specs.Task.{is_boxed}
-use Rattle.task_machine.specs.Step.{State, task_at, bit, Allowed}
-use Rattle.run_model.proofs.Readings.{both}
+use Rattle.task_machine.specs.Step.{State, task_at, Allowed}
+use Rattle.run_model.proofs.Readings.{both, some_inj}
 use Rattle.run_model.specs.Replies.{members}
 use Rattle.run_model.specs.Run.{Round}
 use Rattle.run_model.specs.Lawful.{RoundOf}
@@ -32,24 +32,20 @@ use Rattle.standing.specs.Going.{called, IsNext, Going, gone_on}
 use Rattle.standing.specs.Between.{KeepsBetween, entered}
 use Rattle.standing.specs.Homes.{IsOf, Timed, Homed, BoxesOf, KeepsHomes, HomesBetween, TimersHaveHomes}
 use Rattle.standing.proofs.Boxes.{comes-step}
-use Rattle.standing.proofs.Ended.{TimersOf, ended-of, listed-ended}
+use Rattle.queue_model.proofs.ItemTasks.{TimersOf}
+use Rattle.standing.proofs.Ended.{ended-of, listed-ended}
 use Rattle.standing.proofs.Enter.{entered_each}
 use Rattle.standing.proofs.Gets.{members_are, members_apart}
 use Rattle.standing.proofs.Homes.{homed-gets, homed-events, homed-heard, homed-drew}
 use Rattle.standing.proofs.Opening.{opening_each, blank_at}
-use Rattle.standing.proofs.OwnsKept.{some_same}
 use Rattle.standing.proofs.Rounds.{made-round, left_after}
-use Rattle.standing.proofs.Steps.{at_each, posts_home}
-
-bit_true : (b : Bool) → 0 < bit b → b ≡ true
-bit_true true h = refl
-bit_true false h = absurd (omega arith)
+use Rattle.standing.proofs.Steps.{at_each, bit_set, posts_home}
 
 -- a member of a get's answer was in the caller's box
 pub member-boxed : (s : State) (k : CallerId) (g : ℕ) (r : Reply) (i : ℕ) → Allowed s (said k (calls.Get g) r) → 0 < times i (members g r) → is_boxed k.0 (task_at s i).place ≡ true
 member-boxed s k g r i a some =
     elim (cases_eq (i / 64) g) [
-      | inl same ↦ bit_true (is_boxed k.0 (task_at s i).place) (omega (arith, members_are s k.0 g i a.reply.0 r a.reply.1 a.reply.2 same))
+      | inl same ↦ bit_set (is_boxed k.0 (task_at s i).place) (omega (arith, members_are s k.0 g i a.reply.0 r a.reply.1 a.reply.2 same))
       | inr ne ↦ absurd (omega (arith, members_apart g i a.reply.0 r a.reply.1 ne))
     ]
 
@@ -57,7 +53,7 @@ member-boxed s k g r i a some =
 came_home : (s : Script) (state : State) (k : ℕ) (l : Left) (b : Book) (c : Call) (r : Reply) → BoxesOf s state → asked_in s l b ≡ Some c → Allowed state (said (caller k) c r) → (g i : ℕ) (gs : List ℕ) → l ≡ gets g gs → 0 < times i (members g r) → IsOf s k i
 came_home s state k l b c r boxes e a g i gs same some =
     let asks : asked_in s (gets g gs) b ≡ Some c = ap (λ x. asked_in s x b) (sym same) ∙ e in
-    let call : calls.Get g ≡ c = some_same (calls.Get g) c asks in
+    let call : calls.Get g ≡ c = some_inj (calls.Get g) c asks in
     let get : Allowed state (said (caller k) (calls.Get g) r) = subst (λ (d : Call). Allowed state (said (caller k) d r)) (sym call) a in
     boxes k i (member-boxed state (caller k) g r i get some)
 

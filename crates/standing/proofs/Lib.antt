@@ -19,3 +19,7 @@ pub mod Hears
 pub mod Homes
 pub mod Lawful
 pub mod HomesKept
+pub mod ClockKept
+pub mod Firm
+pub mod TakesTold
+pub mod ReasonsTold

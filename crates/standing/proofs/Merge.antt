@@ -1,8 +1,7 @@
 -- Calls of all callers one after another are a legal history in which each caller goes through its own part.
-use Rattle.std.proofs.Common.{◌≡◌, ◌≢◌, ℕ, zero, suc, ◌+◌, ◌<◌, ◌≤◌, Bool, true, false, ◌&&◌, nat_le, inl, inr, List, [], ◌∷◌, length, get_or, refl, sym, ap, ◌∙◌, arith, eq-eqb, ne_eqb, subst}
+use Rattle.std.proofs.Common.{◌≡◌, ◌≢◌, ℕ, zero, suc, ◌+◌, ◌<◌, ◌≤◌, true, nat_le, inl, inr, List, [], ◌∷◌, length, get_or, refl, sym, ap, ◌∙◌, arith, eq-eqb, ne_eqb, subst}
 use Rattle.std.specs.List.{list_all}
-use Rattle.std.proofs.lemmas.Bool.{cases_eq}
-use Rattle.std.proofs.lemmas.Bool.Decides.{nat_tests}
+use Rattle.std.proofs.lemmas.Bool.{cases_eq, and_from, and_parts, le-leb, leb-true}
 use Rattle.step_tables.specs.declared.tables.Script.{Script}
 use Rattle.task_machine.specs.declared.calls.Entry.{Entry}
 use Rattle.task_machine.specs.History.{Legal, led, calls_of}
@@ -26,23 +25,10 @@ pub legal-going : (s : Script) (T : ℕ) (c : Callers) (es : List Entry) → Goi
 legal-going s T c [] h = tt
 legal-going s T c (e ∷ es) h = (h.0.allowed, legal-going s T (called s T c e) es h.1)
 
-le_test : (m n : ℕ) → m ≤ n → nat_le m n ≡ true
-le_test m n h = grind (arith, nat_tests)
-
-test_le : (m n : ℕ) → nat_le m n ≡ true → m ≤ n
-test_le m n h = grind (arith, nat_tests)
-
-both_true : (a b : Bool) → a ≡ true → b ≡ true → (a && b) ≡ true
-both_true a b p q = rw p q
-
-both_parts : (a b : Bool) → (a && b) ≡ true → (a ≡ true) × (b ≡ true)
-both_parts true b h = (refl, h)
-both_parts false b h = cc
-
 pub callers-going : (s : Script) (T : ℕ) (c : Callers) (es : List Entry) → Going s T c es → list_all (λ e. nat_le e.caller.0 s.workers) es ≡ true
 callers-going s T c [] h = refl
 callers-going s T c (e ∷ es) h =
-    both_true (nat_le e.caller.0 s.workers) (list_all (λ x. nat_le x.caller.0 s.workers) es) (le_test e.caller.0 s.workers h.0.caller) (callers-going s T (called s T c e) es h.1)
+    and_from (nat_le e.caller.0 s.workers) (list_all (λ x. nat_le x.caller.0 s.workers) es) (le-leb e.caller.0 s.workers h.0.caller) (callers-going s T (called s T c e) es h.1)
 
 pub set_same : (j : ℕ) (g : Stage) (at : ℕ → Stage) → set_at j g at j ≡ g
 set_same j g at = rw (eq-eqb j j refl) refl
@@ -81,8 +67,8 @@ pub record Made (s : Script) (T : ℕ) (c : Callers) (es : List Entry) (new : �
 pub going-rest : (s : Script) (T : ℕ) (c : Callers) (es : List Entry) (new : ℕ → Book) → Legal c.state es → list_all (λ e. nat_le e.caller.0 s.workers) es ≡ true → ((k : ℕ) → k ≤ s.workers → Rest s (caller k) T (c.at k) (calls_of k es) (new k)) → Made s T c es new
 going-rest s T c [] new l among h = record { going = tt; done = λ k le. (h k le).0; books = λ k le. (h k le).1 }
 going-rest s T c (e ∷ es) new l among h =
-    let parts = both_parts (nat_le e.caller.0 s.workers) (list_all (λ x. nat_le x.caller.0 s.workers) es) among in
-    let le = test_le e.caller.0 s.workers parts.0 in
+    let parts = and_parts (nat_le e.caller.0 s.workers) (list_all (λ x. nat_le x.caller.0 s.workers) es) among in
+    let le = leb-true e.caller.0 s.workers parts.0 in
     let mine : Rest s e.caller T (c.at e.caller.0) (e ∷ calls_of e.caller.0 es) (new e.caller.0) = subst (λ (ys : List Entry). Rest s e.caller T (c.at e.caller.0) ys (new e.caller.0)) (own_calls e es) (h e.caller.0 le) in
     let x = went s e.caller T e.call e.reply (c.at e.caller.0) in
     let made = going-rest s T (called s T c e) es new l.1 parts.1 (λ k within. at_each (λ k g. Rest s (caller k) T g (calls_of k es) (new k)) e.caller.0 k x c.at (λ same. rw same mine.2) (λ ne. subst (λ (ys : List Entry). Rest s (caller k) T (c.at k) ys (new k)) (other_calls k e es ne) (h k within))) in

@@ -221,19 +221,19 @@ abbrev AllFallBy : ℕ → ℕ → ℕ → ℕ → ℕ → ℕ → ℕ → Type 
 AllFallBy n held_new ran_new drawn_new held_old ran_old drawn_old =
     (held_new + ran_new + drawn_new + n ≡ held_old + ran_old + drawn_old) × (held_new ≤ held_old) × (ran_new ≤ ran_old) × (drawn_new ≤ drawn_old)
 
-or_none : (b : Bool) → (b || (false || false)) ≡ true → b ≡ true
-or_none true h = refl
-or_none false h = h
+only_first : (b : Bool) → (b || (false || false)) ≡ true → bit b + 0 + 0 ≡ 1
+only_first true h = refl
+only_first false h = cc
 
-or_nothing : (b : Bool) → (b || false) ≡ true → b ≡ true
-or_nothing true h = refl
-or_nothing false h = h
+only_second : (b : Bool) → (b || false) ≡ true → 0 + 0 + bit b ≡ 1
+only_second true h = refl
+only_second false h = cc
 
 retired_one : (k : CallerId) (p : Place) → (in_hands k p || (in_draw k p || in_run k p)) ≡ true → bit (in_hands k p) + bit (in_run k p) + bit (in_draw k p) ≡ 1
 retired_one k places.Rest h = cc
-retired_one k (places.Hands j) h = let e : (k.0 == j.0) ≡ true = or_none (k.0 == j.0) h in rw e refl
+retired_one k (places.Hands j) h = only_first (k.0 == j.0) h
 retired_one k (places.Boxed b) h = cc
-retired_one k (places.Drawn j) h = let e : (k.0 == j.0) ≡ true = or_nothing (k.0 == j.0) h in rw e refl
+retired_one k (places.Drawn j) h = only_second (k.0 == j.0) h
 retired_one k (places.Runs j) h = rw h refl
 retired_one k places.Gone h = cc
 

@@ -16,6 +16,7 @@ use Rattle.task_machine.specs.Step.{State, task_at, subject, bit, Allowed}
 use Rattle.task_machine.specs.History.{stepped}
 use Rattle.sched_base.specs.ReasonNames.{timer}
 use Rattle.sched_base.specs.declared.names.CallerId.{CallerId}
+use Rattle.run_model.proofs.Readings.{some_inj}
 use Rattle.run_model.specs.Replies.{is_rest, is_killed, has_reasons, members}
 use Rattle.run_model.specs.Tables.{home_of, call_of, target}
 use Rattle.run_model.specs.Book.{Book, queued_all, taken_from}
@@ -151,37 +152,34 @@ owns-next s T state q b x e k r o a =
       draws = λ i. (let both = both-take state (caller k) (record { 0 = x.task }) r i a in omega (arith, both.2, o.draws i, (begins i).draws));
     }
 
-pub some_same : {A : Type 0} (x y : A) → Some x ≡ Some y → x ≡ y
-some_same x y e = cc
-
 owns-runs : (s : Script) (T : ℕ) (state : State) (q : Onward) (b : Book) (o : Option Next) (c : Call) → next_in q b ≡ o → take_call o ≡ Some c → (k : ℕ) (r : Reply) → Owns k state (stage (runs q) b) → Allowed state (said (caller k) c r) → Owns k (stepped state (said (caller k) c r)) (taken s T r q o b)
 owns-runs s T state q b None c e h k r = cc
 owns-runs s T state q b (Some x) c e h k r =
-    subst (λ (d : Call). Owns k state (stage (runs q) b) → Allowed state (said (caller k) d r) → Owns k (stepped state (said (caller k) d r)) (taken s T r q (Some x) b)) (some_same (calls.Take (record { 0 = x.task })) c h) (owns-next s T state q b x e k r)
+    subst (λ (d : Call). Owns k state (stage (runs q) b) → Allowed state (said (caller k) d r) → Owns k (stepped state (said (caller k) d r)) (taken s T r q (Some x) b)) (some_inj (calls.Take (record { 0 = x.task })) c h) (owns-next s T state q b x e k r)
 
 -- a caller's own call, the one that its part asks
 pub Owns-own : (s : Script) (T : ℕ) (state : State) (l : Left) (b : Book) (c : Call) → asked_in s l b ≡ Some c → (k : ℕ) (r : Reply) → Owns k state (stage l b) → Allowed state (said (caller k) c r) → Owns k (stepped state (said (caller k) c r)) (heard_in s (caller k) T r l b)
 Owns-own s T state (gets g gs) b c e =
-    subst (Kept s T state (gets g gs) b) (some_same (calls.Get g) c e) (owns-gets s T state g gs b)
+    subst (Kept s T state (gets g gs) b) (some_inj (calls.Get g) c e) (owns-gets s T state g gs b)
 Owns-own s T state (wakes j js) b c e =
-    subst (Kept s T state (wakes j js) b) (some_same (calls.Wake (record { 0 = j }) timer) c e) (owns-wakes s T state j js b)
+    subst (Kept s T state (wakes j js) b) (some_inj (calls.Wake (record { 0 = j }) timer) c e) (owns-wakes s T state j js b)
 Owns-own s T state (runs q) b c e = owns-runs s T state q b (next_in q b) c refl e
 Owns-own s T state (acts x more j row q) b c e =
-    subst (Kept s T state (acts x more j row q) b) (some_same (call_of x) c e) (owns-acts s T state x more j row q b)
+    subst (Kept s T state (acts x more j row q) b) (some_inj (call_of x) c e) (owns-acts s T state x more j row q b)
 Owns-own s T state (posts x more j row q) b c e =
-    subst (Kept s T state (posts x more j row q) b) (some_same (calls.Post (record { 0 = x }) (home_of s x)) c e) (owns-posts s T state x more j row q b)
+    subst (Kept s T state (posts x more j row q) b) (some_inj (calls.Post (record { 0 = x }) (home_of s x)) c e) (owns-posts s T state x more j row q b)
 Owns-own s T state (drops j q) b c e =
-    subst (Kept s T state (drops j q) b) (some_same (calls.DropRun (record { 0 = j })) c e) (owns-drops s T state j q b)
+    subst (Kept s T state (drops j q) b) (some_inj (calls.DropRun (record { 0 = j })) c e) (owns-drops s T state j q b)
 Owns-own s T state (retires held_so j q) b c e =
-    subst (Kept s T state (retires held_so j q) b) (some_same (calls.Retire (record { 0 = j })) c e) (owns-retires s T state held_so j q b)
+    subst (Kept s T state (retires held_so j q) b) (some_inj (calls.Retire (record { 0 = j })) c e) (owns-retires s T state held_so j q b)
 Owns-own s T state (returns j q) b c e =
-    subst (Kept s T state (returns j q) b) (some_same (calls.Post (record { 0 = j }) (home_of s j)) c e) (owns-returns s T state j q b)
+    subst (Kept s T state (returns j q) b) (some_inj (calls.Post (record { 0 = j }) (home_of s j)) c e) (owns-returns s T state j q b)
 Owns-own s T state (drawn j n) b c e =
-    subst (Kept s T state (drawn j n) b) (some_same (calls.Take (record { 0 = j })) c e) (owns-drawn s T state j n b)
+    subst (Kept s T state (drawn j n) b) (some_inj (calls.Take (record { 0 = j })) c e) (owns-drawn s T state j n b)
 Owns-own s T state (injects x more) b c e =
-    subst (Kept s T state (injects x more) b) (some_same (call_of x) c e) (owns-injects s T state x more b)
+    subst (Kept s T state (injects x more) b) (some_inj (call_of x) c e) (owns-injects s T state x more b)
 Owns-own s T state (carries j more) b c e =
-    subst (Kept s T state (carries j more) b) (some_same (calls.Post (record { 0 = j }) (home_of s j)) c e) (owns-carries s T state j more b)
+    subst (Kept s T state (carries j more) b) (some_inj (calls.Post (record { 0 = j }) (home_of s j)) c e) (owns-carries s T state j more b)
 Owns-own s T state over b c e = cc
 
 -- calls of others change nothing of it

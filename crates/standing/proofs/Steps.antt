@@ -1,8 +1,9 @@
 -- Any next call of any caller is allowed, and what stands together goes on.
-use Rattle.std.proofs.Common.{◌≡◌, ◌≢◌, ℕ, zero, suc, ◌+◌, ◌-◌, ◌^◌, ◌<◌, ◌≤◌, Bool, true, false, ◌&&◌, ◌||◌, ◌==◌, nat_lt, ◌⊎◌, inl, inr, List, [], ◌∷◌, length, Option, None, Some, IsTrue, refl, sym, ap, ◌∙◌, arith, eq-eqb, eqb-true, ne_eqb, subst}
-use Rattle.std.proofs.lemmas.Bool.{cases_eq, cases_lt}
+use Rattle.std.proofs.Common.{◌≡◌, ◌≢◌, ℕ, zero, suc, ◌+◌, ◌-◌, ◌^◌, ◌<◌, ◌≤◌, Bool, true, false, ◌&&◌, ◌==◌, ◌⊎◌, inl, inr, List, [], ◌∷◌, length, Option, None, Some, IsTrue, refl, sym, ap, ◌∙◌, arith, eq-eqb, eqb-true, ne_eqb, subst}
+use Rattle.std.proofs.lemmas.Bool.{cases_eq, cases_lt, lt-ltb}
 use Rattle.std.proofs.lemmas.Bool.Decides.{nat_tests}
 use Rattle.std.proofs.lemmas.List.{get_or_past}
+use Rattle.std.proofs.Math.Bool.{or-true}
 use Rattle.sched_base.specs.declared.names.CallerId.{CallerId}
 use Rattle.sched_base.specs.declared.names.TaskId.{TaskId}
 use Rattle.sched_base.specs.ReasonNames.{timer}
@@ -24,6 +25,7 @@ use Rattle.task_machine.specs.History.{stepped}
 use Rattle.task_machine.proofs.After.{length-after}
 use Rattle.task_machine.proofs.Replies.{Allowed-reply_of}
 use Rattle.task_machine.proofs.Takes.{takes-step}
+use Rattle.run_model.proofs.Readings.{some_inj}
 use Rattle.run_model.specs.Tables.{home_of, call_of}
 use Rattle.run_model.specs.Book.{Book}
 use Rattle.turn_steps.specs.Left.{Onward, next_in, Left, gets, wakes, runs, acts, posts, drops, retires, returns, drawn, injects, carries, over, Stage, stage, take_call, asked, asked_in, draws_now, MayCall, went}
@@ -38,7 +40,8 @@ use Rattle.standing.specs.Places.{held, ran, drawn_to}
 use Rattle.standing.specs.Keeps.{Owns, Callers, set_at, sum_below, Keeps}
 use Rattle.standing.specs.Going.{called, IsNext, Going, gone_on}
 use Rattle.standing.proofs.Boxes.{PostsTo, comes-step}
-use Rattle.standing.proofs.OwnsKept.{Owns-other, Owns-went, some_same}
+use Rattle.standing.proofs.Effects.{of_held, of_run}
+use Rattle.standing.proofs.OwnsKept.{Owns-other, Owns-went}
 
 -- a task that somebody has, or that is in a box, is one of the machine's
 in-from_place : (state : State) (i : ℕ) (f : Place → Bool) → f places.Rest ≡ false → f (task_at state i).place ≡ true → i < length state.tasks
@@ -48,7 +51,7 @@ in-from_place state i f rests h =
       | inr le ↦ (let past : f (task_at state i).place ≡ false = ap (λ t. f t.place) (get_or_past state.tasks i resting le) ∙ rests in cc)
     ]
 
-bit_set : (b : Bool) → 0 < bit b → b ≡ true
+pub bit_set : (b : Bool) → 0 < bit b → b ≡ true
 bit_set true h = refl
 bit_set false h = absurd (omega arith)
 
@@ -70,15 +73,12 @@ pub record Ready (state : State) (k : ℕ) (c : Call) : Type 0 where
   pub fit : fits state (caller k) c ≡ true
   pub room : Roomy c (task_at state (subject c))
 
-lt_test : (m n : ℕ) → m < n → nat_lt m n ≡ true
-lt_test m n h = grind (arith, nat_tests)
-
 all_named : (a b c : Bool) → a ≡ true → b ≡ true → c ≡ true → (a && (b && c)) ≡ true
 all_named a b c p q r = rw (p, q) r
 
 named-call : (state : State) (k : ℕ) (c : Call) → k < state.workers + 1 → subject c < length state.tasks → names state (caller k) c ≡ true → is_named state (caller k) c ≡ true
 named-call state k c box task rest =
-    all_named (is_box state k) (is_task state (subject c)) (names state (caller k) c) (lt_test k (state.workers + 1) box) (lt_test (subject c) (length state.tasks) task) rest
+    all_named (is_box state k) (is_task state (subject c)) (names state (caller k) c) (lt-ltb k (state.workers + 1) box) (lt-ltb (subject c) (length state.tasks) task) rest
 
 -- a task that is listed, due, run or drawn is where it has to be
 one_more : (i : ℕ) → bit (i == i) ≡ 1
@@ -93,18 +93,10 @@ ran_so k state i h = bit_set (in_run (caller k) (task_at state i).place) h
 drawn_so : (k : ℕ) (state : State) (i : ℕ) → 0 < drawn_to (caller k) state i → in_draw (caller k) (task_at state i).place ≡ true
 drawn_so k state i h = bit_set (in_draw (caller k) (task_at state i).place) h
 
-or_second : (a b : Bool) → b ≡ true → (a || b) ≡ true
-or_second true b h = refl
-or_second false b h = h
-
-or_third : (a b c : Bool) → c ≡ true → (a || (b || c)) ≡ true
-or_third true b c h = refl
-or_third false b c h = or_second b c h
-
 -- a post of a task in hand
 ready-post : (s : Script) (state : State) (k i : ℕ) → IsFit s → state.workers ≡ s.workers → k ≤ s.workers → 0 < held (caller k) state i → Ready state k (calls.Post (record { 0 = i }) (home_of s i))
 ready-post s state k i fit w le h = record {
-  named = named-call state k (calls.Post (record { 0 = i }) (home_of s i)) (omega arith) (held-in state (caller k) i h) (lt_test (home_of s i) (state.workers + 1) (omega (arith, fit.homes i)));
+  named = named-call state k (calls.Post (record { 0 = i }) (home_of s i)) (omega arith) (held-in state (caller k) i h) (lt-ltb (home_of s i) (state.workers + 1) (omega (arith, fit.homes i)));
   fit = held_so k state i h;
   room = tt;
 }
@@ -113,7 +105,7 @@ ready-post s state k i fit w le h = record {
 ready-take : (state : State) (k i : ℕ) → k < state.workers + 1 → (task_at state i).takes < 2 ^ 48 - 1 → (0 < held (caller k) state i) ⊎ (0 < drawn_to (caller k) state i) → Ready state k (calls.Take (record { 0 = i }))
 ready-take state k i box room h = record {
   named = named-call state k (calls.Take (record { 0 = i })) box (elim h [ inl x ↦ held-in state (caller k) i x | inr x ↦ drawn-in state (caller k) i x ]) refl;
-  fit = elim h [ inl x ↦ rw (held_so k state i x) refl | inr x ↦ or_second (in_hands (caller k) (task_at state i).place) (in_draw (caller k) (task_at state i).place) (drawn_so k state i x) ];
+  fit = elim h [ inl x ↦ rw (held_so k state i x) refl | inr x ↦ rw (drawn_so k state i x) (or-true (in_hands (caller k) (task_at state i).place)) ];
   room = room;
 }
 
@@ -151,21 +143,21 @@ ready-runs s state k limit q b (Some x) c e h a =
     let i = x.task in
     let has : 0 < held (caller k) state i = omega (arith, h.owns.hands i, listed-taken i b q x e, one_more i) in
     let room : (task_at state i).takes < 2 ^ 48 - 1 = omega (arith, h.takes i, next-after s.depth b q x e, h.below) in
-    subst (Ready state k) (some_same (calls.Take (record { 0 = i })) c a) (ready-take state k i (omega (arith, h.among, h.workers)) room (inl has))
+    subst (Ready state k) (some_inj (calls.Take (record { 0 = i })) c a) (ready-take state k i (omega (arith, h.among, h.workers)) room (inl has))
 
 ready-retires : (s : Script) (state : State) (k limit : ℕ) (in_hand : Bool) (i : ℕ) (q : Onward) (b : Book) → Known s state k limit (retires in_hand i q) b → Ready state k (calls.Retire (record { 0 = i }))
 ready-retires s state k limit true i q b h =
     let has : 0 < held (caller k) state i = omega (arith, h.owns.hands i, one_more i) in
     record {
       named = named-call state k (calls.Retire (record { 0 = i })) (omega (arith, h.among, h.workers)) (held-in state (caller k) i has) refl;
-      fit = rw (held_so k state i has) refl;
+      fit = of_held (caller k) (task_at state i).place (held_so k state i has);
       room = tt;
     }
 ready-retires s state k limit false i q b h =
     let has : 0 < ran (caller k) state i = omega (arith, h.owns.runs i, one_more i) in
     record {
       named = named-call state k (calls.Retire (record { 0 = i })) (omega (arith, h.among, h.workers)) (ran-in state (caller k) i has) refl;
-      fit = or_third (in_hands (caller k) (task_at state i).place) (in_draw (caller k) (task_at state i).place) (in_run (caller k) (task_at state i).place) (ran_so k state i has);
+      fit = of_run (caller k) (task_at state i).place (ran_so k state i has);
       room = tt;
     }
 
@@ -182,7 +174,7 @@ ready-gets : (s : Script) (state : State) (k limit g : ℕ) (gs : List ℕ) (b :
 ready-gets s state k limit g gs b h =
     let ne = not_same k s.workers h.part in
     record {
-      named = named-call state k (calls.Get g) (omega (arith, h.among, h.workers)) (omega (arith, h.tasks, h.range.names.0)) (lt_test k state.workers (omega (arith, h.among, h.workers)));
+      named = named-call state k (calls.Get g) (omega (arith, h.among, h.workers)) (omega (arith, h.tasks, h.range.names.0)) (lt-ltb k state.workers (omega (arith, h.among, h.workers)));
       fit = refl;
       room = tt;
     }
@@ -196,31 +188,31 @@ ready-wakes s state k limit i is b h = record {
 
 ready-asked : (s : Script) (state : State) (k limit : ℕ) (l : Left) (b : Book) (c : Call) → Known s state k limit l b → asked_in s l b ≡ Some c → Ready state k c
 ready-asked s state k limit (gets g gs) b c h e =
-    subst (Ready state k) (some_same (calls.Get g) c e) (ready-gets s state k limit g gs b h)
+    subst (Ready state k) (some_inj (calls.Get g) c e) (ready-gets s state k limit g gs b h)
 ready-asked s state k limit (wakes i is) b c h e =
-    subst (Ready state k) (some_same (calls.Wake (record { 0 = i }) timer) c e) (ready-wakes s state k limit i is b h)
+    subst (Ready state k) (some_inj (calls.Wake (record { 0 = i }) timer) c e) (ready-wakes s state k limit i is b h)
 ready-asked s state k limit (runs q) b c h e = ready-runs s state k limit q b (next_in q b) c refl h e
 ready-asked s state k limit (acts a more i row q) b c h e =
-    subst (Ready state k) (some_same (call_of a) c e) (ready-action state (length s.tasks) k a (sym h.tasks) (omega (arith, h.among, h.workers)) h.range.names.0)
+    subst (Ready state k) (some_inj (call_of a) c e) (ready-action state (length s.tasks) k a (sym h.tasks) (omega (arith, h.among, h.workers)) h.range.names.0)
 ready-asked s state k limit (posts j more i row q) b c h e =
     let has : 0 < held (caller k) state j = omega (arith, h.owns.hands j, one_more j) in
-    subst (Ready state k) (some_same (calls.Post (record { 0 = j }) (home_of s j)) c e) (ready-post s state k j h.fit h.workers h.among has)
+    subst (Ready state k) (some_inj (calls.Post (record { 0 = j }) (home_of s j)) c e) (ready-post s state k j h.fit h.workers h.among has)
 ready-asked s state k limit (drops i q) b c h e =
-    subst (Ready state k) (some_same (calls.DropRun (record { 0 = i })) c e) (ready-drops s state k limit i q b h)
+    subst (Ready state k) (some_inj (calls.DropRun (record { 0 = i })) c e) (ready-drops s state k limit i q b h)
 ready-asked s state k limit (retires in_hand i q) b c h e =
-    subst (Ready state k) (some_same (calls.Retire (record { 0 = i })) c e) (ready-retires s state k limit in_hand i q b h)
+    subst (Ready state k) (some_inj (calls.Retire (record { 0 = i })) c e) (ready-retires s state k limit in_hand i q b h)
 ready-asked s state k limit (returns i q) b c h e =
     let has : 0 < held (caller k) state i = omega (arith, h.owns.hands i, one_more i) in
-    subst (Ready state k) (some_same (calls.Post (record { 0 = i }) (home_of s i)) c e) (ready-post s state k i h.fit h.workers h.among has)
+    subst (Ready state k) (some_inj (calls.Post (record { 0 = i }) (home_of s i)) c e) (ready-post s state k i h.fit h.workers h.among has)
 ready-asked s state k limit (drawn i n) b c h e =
     let has : 0 < drawn_to (caller k) state i = omega (arith, h.owns.draws i, one_more i) in
     let room : (task_at state i).takes < 2 ^ 48 - 1 = omega (arith, h.takes i, h.below) in
-    subst (Ready state k) (some_same (calls.Take (record { 0 = i })) c e) (ready-take state k i (omega (arith, h.among, h.workers)) room (inr has))
+    subst (Ready state k) (some_inj (calls.Take (record { 0 = i })) c e) (ready-take state k i (omega (arith, h.among, h.workers)) room (inr has))
 ready-asked s state k limit (injects a more) b c h e =
-    subst (Ready state k) (some_same (call_of a) c e) (ready-action state (length s.tasks) k a (sym h.tasks) (omega (arith, h.among, h.workers)) h.range.names.0)
+    subst (Ready state k) (some_inj (call_of a) c e) (ready-action state (length s.tasks) k a (sym h.tasks) (omega (arith, h.among, h.workers)) h.range.names.0)
 ready-asked s state k limit (carries j more) b c h e =
     let has : 0 < held (caller k) state j = omega (arith, h.owns.hands j, one_more j) in
-    subst (Ready state k) (some_same (calls.Post (record { 0 = j }) (home_of s j)) c e) (ready-post s state k j h.fit h.workers h.among has)
+    subst (Ready state k) (some_inj (calls.Post (record { 0 = j }) (home_of s j)) c e) (ready-post s state k j h.fit h.workers h.among has)
 ready-asked s state k limit over b c h e = cc
 
 -- one summand is no more than the sum
@@ -305,13 +297,13 @@ post_home s (gets g gs) b i to e = cc
 post_home s (wakes j js) b i to e = cc
 post_home s (runs q) b i to e = absurd (no_take (next_in q b) i to e)
 post_home s (acts a more j row q) b i to e = absurd (no_action a i to e)
-post_home s (posts j more x row q) b i to e = let same : calls.Post (record { 0 = j }) (home_of s j) ≡ calls.Post i to = some_same (calls.Post (record { 0 = j }) (home_of s j)) (calls.Post i to) e in home_same s j i to same
+post_home s (posts j more x row q) b i to e = let same : calls.Post (record { 0 = j }) (home_of s j) ≡ calls.Post i to = some_inj (calls.Post (record { 0 = j }) (home_of s j)) (calls.Post i to) e in home_same s j i to same
 post_home s (drops j q) b i to e = cc
 post_home s (retires in_hand j q) b i to e = cc
-post_home s (returns j q) b i to e = let same : calls.Post (record { 0 = j }) (home_of s j) ≡ calls.Post i to = some_same (calls.Post (record { 0 = j }) (home_of s j)) (calls.Post i to) e in home_same s j i to same
+post_home s (returns j q) b i to e = let same : calls.Post (record { 0 = j }) (home_of s j) ≡ calls.Post i to = some_inj (calls.Post (record { 0 = j }) (home_of s j)) (calls.Post i to) e in home_same s j i to same
 post_home s (drawn j n) b i to e = cc
 post_home s (injects a more) b i to e = absurd (no_action a i to e)
-post_home s (carries j more) b i to e = let same : calls.Post (record { 0 = j }) (home_of s j) ≡ calls.Post i to = some_same (calls.Post (record { 0 = j }) (home_of s j)) (calls.Post i to) e in home_same s j i to same
+post_home s (carries j more) b i to e = let same : calls.Post (record { 0 = j }) (home_of s j) ≡ calls.Post i to = some_inj (calls.Post (record { 0 = j }) (home_of s j)) (calls.Post i to) e in home_same s j i to same
 post_home s over b i to e = cc
 
 -- a next call that posts a task posts it to its home

@@ -1,6 +1,6 @@
 //! What holds of every run, as functions that do nothing and whose contracts are the laws.
 
-ghost use Rattle.standing.specs.Laws.{CallersHear, NextCallsAreAllowed, RoundsAreCalls, RoundsKeep, RunsCanGoOn};
+ghost use Rattle.standing.specs.Laws.{CallersHear, NextCallsAreAllowed, RoundsAreCalls, RoundsKeep, RunsCanGoOn, RunsStandFirm, RunsTellReasons, TakesAreTold};
 
 /// What stands together holds at the opening, and each call within a round and each lawful round
 /// keeps it.
@@ -31,4 +31,20 @@ pub fn rounds_are_calls()
 #[tactic(auto, using(crate::proofs::Lawful::callers_hear_all))]
 pub fn callers_hear()
     ensures { CallersHear }
+{}
+
+/// All that stands together before a round holds at the opening and after whole rounds.
+pub fn runs_stand_firm()
+    ensures { RunsStandFirm }
+{}
+
+/// The takes of a task that is not gone are those before and those among the calls of its worker.
+pub fn takes_are_told()
+    ensures { TakesAreTold }
+{}
+
+/// In each lawful run each take has exactly the reasons since the task's previous take, or since the
+/// opening, and the killed flag exactly where a kill came since then.
+pub fn runs_tell_reasons()
+    ensures { RunsTellReasons }
 {}

@@ -11,10 +11,6 @@ use Rattle.run_model.specs.Turn.{Turn}
 use Rattle.run_model.specs.Standing.{blank_book, opening}
 use Rattle.run_model.specs.Lawful.{Goes, LawfulRun}
 use Rattle.taskrun.specs.Play.{worker, World, turned, rounds_from, rests_from, opened, play}
-use Rattle.taskrun.specs.Headline.{history_of, is_init, IsRunOf}
-use Rattle.task_machine.specs.History.{Legal}
-use Rattle.task_machine.proofs.Reasons.{TakesTell-legal}
-use Rattle.std.specs.List.{flat_map}
 use Rattle.taskrun.proofs.Went.{Went, went_then, went_quiet, went_from, went_at}
 use Rattle.taskrun.proofs.TurnOf.{after_some, filled_by, no_draws}
 use Rattle.taskrun.proofs.RunOf.{round_by}
@@ -66,18 +62,3 @@ lawful_none depth start step rounds some =
     let s = script_without depth start step rounds in
     let first = after_some rounds (omega arith) in
     subst (λ n. Goes s (rests_from n s (opened s)) 0 start (opening s) (rounds_from n s start (opened s))) (sym first.1) (goes_once first.0 depth start step rounds)
-
-history_once : (n depth start step rounds : ℕ) → let s = script_without depth start step rounds in flat_map (λ round. round.entries) (rounds_from (suc n) s start (opened s)) ≡ []
-unfolding turned
-history_once n depth start step rounds = refl
-
-pub none_is_run : (depth start step rounds : ℕ) → 1 ≤ rounds → let s = script_without depth start step rounds in IsRunOf s (play s)
-none_is_run depth start step rounds some =
-    let s = script_without depth start step rounds in
-    let first = after_some rounds (omega arith) in
-    let nothing : history_of (play s) ≡ [] =
-    subst (λ n. flat_map (λ round. round.entries) (rounds_from n s start (opened s)) ≡ []) (sym first.1) (history_once first.0 depth start step rounds) in
-    record {
-      lawful = lawful_none depth start step rounds some;
-      reasons = TakesTell-legal (is_init s) (opening s).state (history_of (play s)) (λ i. refl) (subst (λ es. Legal (opening s).state es) (sym nothing) tt);
-    }

@@ -3,11 +3,9 @@ use Rattle.std.proofs.Common.{◌≡◌, ℕ, zero, suc, ◌+◌, ◌-◌, ◌^�
 use Rattle.std.proofs.lemmas.Bool.Decides.{nat_tests}
 use Rattle.step_tables.specs.declared.tables.Script.{Script}
 use Rattle.step_tables.specs.declared.tables.TaskDef.{TaskDef}
-use Rattle.std.specs.List.{AllByRecursion, list_all, flat_map, range_with_len}
+use Rattle.std.specs.List.{AllByRecursion, list_all, range_with_len}
 use Rattle.task_machine.specs.declared.calls.Entry.{Entry}
-use Rattle.task_machine.specs.Step.{State, task_at}
-use Rattle.task_machine.specs.Since.{OpensAs}
-use Rattle.task_machine.proofs.Reasons.{TakesTell-legal}
+use Rattle.task_machine.specs.Step.{State}
 use Rattle.task_machine.specs.History.{Legal, led, calls_of}
 use Rattle.run_model.specs.Run.{Round}
 use Rattle.run_model.specs.Parts.{Quiet, Then}
@@ -17,8 +15,7 @@ use Rattle.run_model.specs.Standing.{Standing, in_shared, was_drawn, draws_of, t
 use Rattle.run_model.specs.Lawful.{RoundOf, Goes, LawfulRun}
 use Rattle.taskrun.specs.Play.{worker, World, turned, is_quiet, cleared, tick_after, rounds_from, rests_from, opened, play}
 use Rattle.taskrun.specs.Stands.{at, one, IsAction, Phase, rests, waits, boxed, is_over, place_in, Settled}
-use Rattle.taskrun.specs.Headline.{history_of, is_init, IsRunOf}
-use Rattle.taskrun.proofs.Went.{Went, IsMine, legal_more}
+use Rattle.taskrun.proofs.Went.{Went, IsMine}
 use Rattle.taskrun.proofs.Acts.{Form, script_of_form, book, BookFor}
 use Rattle.taskrun.proofs.TurnOf.{turn}
 
@@ -63,10 +60,6 @@ pub record Rounded (f : Form) (r T n : ℕ) (w : World) (b : Book) : Type 0 wher
   pub mine : AllByRecursion IsMine (turned (script_of_form f) w).entries
   pub settled : Settled (turned (script_of_form f) w) (n + 1)
   pub book_for : BookFor ends (turned (script_of_form f) w).queued
-
--- the entries of some rounds
-abbrev pub history_in : List Round → List Entry
-history_in rounds = flat_map (λ round. round.entries) rounds
 
 -- a script of one worker and no events
 abbrev pub quiet_script : ℕ → ℕ → ℕ → ℕ → List TaskDef → Script
@@ -148,41 +141,3 @@ settled_opening f false = record { phase = rests; stands = record { pending = 0;
 pub lawful_one : (f : Form) → 1 ≤ f.depth → 1 ≤ f.rounds → f.rounds ≤ 100000 → AllByRecursion IsAction f.actions → LawfulRun (script_of_form f) (play (script_of_form f))
 lawful_one f h some few ok =
     goes f.rounds 0 f f.start 0 (opened (script_of_form f)) (book 0 []) h ok (omega arith) (omega arith) (omega arith) (settled_opening f f.init) (record { count = 0; key = pos 0; is = refl }) refl
-
--- the rounds' histories are one legal history
-legal_next : (quiet : Bool) (s : State) (more : List Round) → Legal s (history_in more) → Legal s (history_in (if quiet then [] else more))
-legal_next true s more h = tt
-legal_next false s more h = h
-
-pub legal_rounds : (n : ℕ) (f : Form) (T k : ℕ) (w : World) (b : Book) → 1 ≤ f.depth → AllByRecursion IsAction f.actions → k + n < 2 ^ 48 - 1 → Settled w k → BookFor b w.queued → w.entries ≡ [] → Legal w.state (history_in (rounds_from n (script_of_form f) T w))
-legal_rounds zero f T k w b h ok room st for clear = tt
-legal_rounds (suc n) f T k w b h ok room st for clear =
-    let s = script_of_form f in
-    let v = turned s w in
-    let out = rounded f 0 T k w b h ok (omega arith) st for clear in
-    let more = rounds_from n s (tick_after s T) (cleared v) in
-    let next : Legal v.state (history_in more) =
-    legal_rounds n f (tick_after s T) (k + 1) (cleared v) out.ends h ok (omega arith)
-    (record { phase = out.settled.phase; stands = out.settled.stands; queued = out.settled.queued }) out.book_for refl in
-    legal_more w.state v.entries (history_in (if is_quiet v then [] else more)) out.legal
-    (subst (λ s. Legal s (history_in (if is_quiet v then [] else more))) out.leads (legal_next (is_quiet v) v.state more next))
-
-pub legal_one : (f : Form) → 1 ≤ f.depth → f.rounds ≤ 100000 → AllByRecursion IsAction f.actions → Legal (opening (script_of_form f)).state (history_of (play (script_of_form f)))
-legal_one f h few ok =
-    legal_rounds f.rounds f f.start 0 (opened (script_of_form f)) (book 0 []) h ok (omega arith) (settled_opening f f.init) (record { count = 0; key = pos 0; is = refl }) refl
-
--- the opening seats the init tasks
-opens_first : (f : Form) (init : Bool) → OpensAs init (task_at (opening (script_of_form (record f { init = init }))).state 0)
-opens_first f true = (0, refl)
-opens_first f false = refl
-
-opens_one : (f : Form) (i : ℕ) → OpensAs (is_init (script_of_form f) i) (task_at (opening (script_of_form f)).state i)
-opens_one f zero = opens_first f f.init
-opens_one f (suc i) = refl
-
--- the run of a script with one task is as the headline says
-pub one_is_run : (f : Form) → 1 ≤ f.depth → 1 ≤ f.rounds → f.rounds ≤ 100000 → AllByRecursion IsAction f.actions → IsRunOf (script_of_form f) (play (script_of_form f))
-one_is_run f h some few ok = record {
-  lawful = lawful_one f h some few ok;
-  reasons = TakesTell-legal (is_init (script_of_form f)) (opening (script_of_form f)).state (history_of (play (script_of_form f))) (opens_one f) (legal_one f h few ok);
-}

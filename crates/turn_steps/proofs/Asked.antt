@@ -1,5 +1,5 @@
 -- What a caller asks is no draw, and while it asks it draws none.
-use Rattle.std.proofs.Common.{◌≡◌, ℕ, ◌<◌, false, Some, None, Option, refl, sym, ap, ◌∙◌, arith, ◌⊎◌, inl, inr}
+use Rattle.std.proofs.Common.{◌≡◌, ℕ, ◌<◌, false, Some, None, Option, refl, sym, ap, ◌∙◌, arith, inl, inr}
 use Rattle.sched_base.specs.declared.names.CallerId.{CallerId}
 use Rattle.queue_model.specs.Classes.{Next}
 use Rattle.step_tables.specs.declared.tables.Action.{Action}
@@ -12,7 +12,7 @@ use Rattle.run_model.specs.Tables.{home_of, call_of}
 use Rattle.run_model.specs.Standing.{is_draw}
 use Rattle.run_model.specs.Book.{Book}
 use Rattle.run_model.proofs.Readings.{some_inj}
-use Rattle.turn_steps.specs.Left.{Onward, next_in, Left, gets, wakes, runs, acts, posts, drops, retires, returns, drawn, injects, carries, over, Stage, take_call, asked_in, asked, heard, draws_if, draws_now_in, draws_now, drew, MayDraw, MayCall, went}
+use Rattle.turn_steps.specs.Left.{next_in, Left, gets, wakes, runs, acts, posts, drops, retires, returns, drawn, injects, carries, over, Stage, take_call, asked_in, asked, heard, draws_if, draws_now_in, draws_now, drew, MayCall, went}
 
 action-draw : (a : Action) → is_draw (call_of a) ≡ false
 action-draw (Wakes i reasons) = refl

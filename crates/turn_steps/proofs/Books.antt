@@ -1,11 +1,11 @@
 -- How often a task is listed in a book that has changed.
-use Rattle.std.proofs.Common.{◌≡◌, ℕ, zero, suc, ◌+◌, ◌-◌, ◌==◌, Bool, true, false, List, [], ◌∷◌, ◌++◌, map, take, drop, length, Option, Some, None, refl, sym, ap, subst, ◌∙◌, arith, ◌⊎◌, inl, inr}
+use Rattle.std.proofs.Common.{◌≡◌, ℕ, zero, suc, ◌+◌, ◌-◌, ◌==◌, Bool, List, [], ◌∷◌, ◌++◌, map, take, drop, length, Option, Some, refl, sym, ap, subst, arith, ◌⊎◌, inl, inr}
 use Rattle.std.proofs.lemmas.Bool.{cases_Bool}
 use Rattle.sched_base.specs.KeyedList.{inserted}
 use Rattle.sched_base.specs.declared.names.Class.{Class}
 use Rattle.sched_base.specs.declared.names.Class.TheVariants.{Urgent, Normal, Bulk, Heavy}
 use Rattle.queue_model.specs.RunList.{RunItem}
-use Rattle.queue_model.specs.Classes.{Classes, of_class, pushed, popped, Next, run_in, first_run, next_run}
+use Rattle.queue_model.specs.Classes.{Classes, of_class, pushed, popped, Next, run_in, first_run}
 use Rattle.step_tables.specs.declared.tables.Kind.{Kind}
 use Rattle.step_tables.specs.declared.tables.Kind.TheVariants.{Pinned, Shared, Tasklet}
 use Rattle.step_tables.specs.declared.tables.Script.{Script}

@@ -1,9 +1,8 @@
 -- How many takes each stage may still cost, and that each take is paid for.
-use Rattle.std.proofs.Common.{◌≡◌, ℕ, ◌+◌, ◌-◌, ◌*◌, ◌<◌, ◌≤◌, ◌==◌, Bool, true, false, List, [], ◌∷◌, Option, Some, None, refl, sym, ap, arith}
-use Rattle.std.proofs.lemmas.Bool.{cases_Bool}
+use Rattle.std.proofs.Common.{◌≡◌, ℕ, ◌+◌, ◌-◌, ◌*◌, ◌<◌, ◌≤◌, ◌==◌, Bool, true, false, List, [], ◌∷◌, Option, Some, None, refl, sym, arith}
 use Rattle.sched_base.specs.ReasonNames.{timer}
 use Rattle.sched_base.specs.declared.names.CallerId.{CallerId}
-use Rattle.queue_model.specs.Classes.{Next, quotas}
+use Rattle.queue_model.specs.Classes.{Next}
 use Rattle.queue_model.specs.Sweep.{fired, swept}
 use Rattle.step_tables.specs.declared.tables.Action.{Action}
 use Rattle.step_tables.specs.declared.tables.Action.TheVariants.{Wake as Wakes, Kill as Kills}
@@ -16,10 +15,10 @@ use Rattle.task_machine.specs.Since.{is_take}
 use Rattle.task_machine.specs.Step.{bit}
 use Rattle.run_model.specs.Replies.{is_rest, is_killed, has_reasons, takes_in, members}
 use Rattle.run_model.specs.Tables.{home_of, row_by, call_of, target}
-use Rattle.run_model.specs.Book.{Book, queued, queued_all, filled, taken_from, untimed}
+use Rattle.run_model.specs.Book.{Book, queued, queued_all, filled, taken_from}
 use Rattle.run_model.proofs.Readings.{some_inj}
 use Rattle.run_model.proofs.TurnReadings.{next_spends}
-use Rattle.turn_steps.specs.Left.{Onward, by_class, by_draw, next_in, spent_in, draws_in, takes_after, Left, gets, wakes, runs, acts, posts, drops, retires, returns, drawn, injects, carries, over, Stage, stage, at_runs, at_wakes, at_gets, at_acts, at_events, take_call, asked_in, waked, handed, acted, run_begun, taken, returned, dropped_live, dropped_as, injected, heard_in, draws_if, draws_now_in, drew, went, MayCall}
+use Rattle.turn_steps.specs.Left.{Onward, by_class, by_draw, next_in, spent_in, draws_in, takes_after, Left, gets, wakes, runs, acts, posts, drops, retires, returns, drawn, injects, carries, over, Stage, stage, at_runs, at_wakes, at_gets, at_acts, at_events, take_call, asked_in, waked, handed, acted, run_begun, taken, returned, dropped_live, dropped_as, injected, heard_in, draws_if, draws_now_in, went, MayCall}
 use Rattle.turn_steps.specs.Counts.{is_injectors, takes_left}
 use Rattle.turn_steps.proofs.Asked.{by_ask}
 use Rattle.turn_steps.proofs.Quotas.{quotas-le}

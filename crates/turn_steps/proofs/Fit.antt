@@ -1,6 +1,6 @@
 -- What a script's soundness gives a turn.
-use Rattle.std.proofs.Common.{◌≡◌, ℕ, zero, suc, ◌+◌, ◌<◌, ◌≤◌, ◌&&◌, ◌==◌, Bool, true, false, leb, ltb, List, [], ◌∷◌, map, length, get_or, IsTrue, refl, sym, ap, arith, inl, inr, ltb-true}
-use Rattle.std.specs.List.{list_all, filter, AllByRecursion}
+use Rattle.std.proofs.Common.{◌≡◌, ℕ, zero, suc, ◌+◌, ◌<◌, ◌≤◌, ◌==◌, Bool, true, leb, ltb, List, [], ◌∷◌, map, length, get_or, IsTrue, arith, inl, inr, ltb-true}
+use Rattle.std.specs.List.{list_all, filter}
 use Rattle.std.proofs.lemmas.Bool.{cases_Bool, leb-true}
 use Rattle.step_tables.specs.declared.tables.Action.{Action}
 use Rattle.step_tables.specs.declared.tables.Event.{Event}
@@ -9,8 +9,8 @@ use Rattle.step_tables.specs.declared.tables.Kind.TheVariants.{Pinned, Shared, T
 use Rattle.step_tables.specs.declared.tables.Row.{Row}
 use Rattle.step_tables.specs.declared.tables.Script.{Script}
 use Rattle.step_tables.specs.declared.tables.TaskDef.{TaskDef}
-use Rattle.step_tables.specs.Sound.{within, is_nice, is_sound_action, is_sound_expiry, is_sound_kind, is_sound_row, is_sound_task, is_sound}
-use Rattle.run_model.specs.Tables.{blank_row, blank_task, def_of, row_at, home_in, home_of, actions_in}
+use Rattle.step_tables.specs.Sound.{within, is_sound_action, is_sound_expiry, is_sound_kind, is_sound_row, is_sound_task, is_sound}
+use Rattle.run_model.specs.Tables.{blank_row, blank_task, def_of, row_at, home_in}
 use Rattle.run_model.proofs.Readings.{both}
 use Rattle.turn_steps.specs.Ranges.{AreSound, IsFit}
 

@@ -1,5 +1,5 @@
 -- A reply that a machine can give leaves each task once, and no more calls come than are counted.
-use Rattle.std.proofs.Common.{◌≡◌, ℕ, zero, suc, ◌+◌, ◌*◌, ◌<◌, ◌≤◌, ◌==◌, ◌||◌, Bool, true, false, List, [], ◌∷◌, length, Option, Some, None, refl, sym, ap, subst, arith, if◌then◌else◌}
+use Rattle.std.proofs.Common.{◌≡◌, ℕ, ◌+◌, ◌≤◌, ◌==◌, ◌||◌, Bool, true, false, List, [], ◌∷◌, length, Option, Some, None, refl, sym, subst, arith, if◌then◌else◌}
 use Rattle.std.specs.List.{range_with_len}
 use Rattle.std.proofs.lemmas.List.FromFn.{length-range_with_len}
 use Rattle.sched_base.specs.ReasonNames.{timer}
@@ -13,21 +13,19 @@ use Rattle.task_machine.specs.declared.calls.Call.{Call}
 use Rattle.task_machine.specs.declared.calls.Call.TheVariants as calls
 use Rattle.task_machine.specs.declared.calls.Reply.{Reply}
 use Rattle.task_machine.specs.declared.calls.Entry.{Entry}
-use Rattle.run_model.specs.Replies.{is_rest, is_killed, has_reasons, takes_in, members}
-use Rattle.run_model.specs.Tables.{home_of, groups, call_of, target}
-use Rattle.run_model.specs.Turn.{Turn}
-use Rattle.run_model.specs.Book.{Book, queued_all, taken_from, untimed}
+use Rattle.run_model.specs.Replies.{is_rest, is_killed, has_reasons, members}
+use Rattle.run_model.specs.Tables.{groups, call_of, target}
+use Rattle.run_model.specs.Book.{Book, queued_all, taken_from}
 use Rattle.run_model.proofs.Readings.{some_inj}
-use Rattle.turn_steps.specs.Left.{Onward, by_draw, next_in, spent_in, Left, gets, wakes, runs, acts, posts, drops, retires, returns, drawn, injects, carries, over, Stage, stage, at_gets, begun, take_call, asked_in, waked, run_begun, taken, heard_in, draws_now_in, drew, went, MayCall, Rest}
-use Rattle.turn_steps.specs.Times.{times, listed}
-use Rattle.turn_steps.specs.Has.{due, run_by, drawn_by, has, gain, Once, CanGive}
+use Rattle.turn_steps.specs.Left.{Onward, by_draw, next_in, spent_in, Left, gets, wakes, runs, acts, posts, drops, retires, returns, drawn, injects, carries, over, Stage, stage, begun, take_call, asked_in, waked, taken, heard_in, went, MayCall, Rest}
+use Rattle.turn_steps.specs.Has.{has, gain, Once, CanGive}
 use Rattle.turn_steps.specs.Counts.{calls_left}
 use Rattle.turn_steps.specs.Ranges.{IsFit}
 use Rattle.turn_steps.specs.Laws.{RepliesKeepOnce, RestsAreShort, TurnsAreShort}
 use Rattle.turn_steps.proofs.Asked.{by_ask}
 use Rattle.turn_steps.proofs.Books.{listed-queued_all, listed-taken}
 use Rattle.turn_steps.proofs.Stages.{Has, has-wakes, has-gets, has-acts, has-events, listed-waked, has-acted, has-run_begun, has-dropped_as, has-injected}
-use Rattle.turn_steps.proofs.Measure.{Within, within-gets, calls_left-went}
+use Rattle.turn_steps.proofs.Measure.{within-gets, calls_left-went}
 use Rattle.turn_steps.proofs.Fit.{IsFit-sound}
 use Rattle.turn_steps.proofs.Turns.{rest-turn}
 

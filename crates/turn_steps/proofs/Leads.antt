@@ -1,13 +1,13 @@
 -- From a stage a caller makes a part of its turn, and then goes on at another stage.
-use Rattle.std.proofs.Common.{◌≡◌, ℕ, Bool, true, false, List, [], ◌∷◌, ◌++◌, Some, None, refl, sym, ap, ap₂, subst, ◌∙◌, append_assoc, inl, inr}
+use Rattle.std.proofs.Common.{◌≡◌, ℕ, List, [], ◌∷◌, ◌++◌, Some, None, refl, sym, ap, ap₂, subst, ◌∙◌, append_assoc, inl}
 use Rattle.sched_base.specs.declared.names.CallerId.{CallerId}
 use Rattle.step_tables.specs.declared.tables.Script.{Script}
 use Rattle.task_machine.specs.declared.calls.Call.{Call}
 use Rattle.task_machine.specs.declared.calls.Reply.{Reply}
 use Rattle.task_machine.specs.declared.calls.Entry.{Entry}
-use Rattle.run_model.specs.Parts.{Part, Quiet, Then, Asks, Either, From, Each}
+use Rattle.run_model.specs.Parts.{Part, Quiet, Then, Asks, From, Each}
 use Rattle.run_model.specs.Book.{Book}
-use Rattle.turn_steps.specs.Left.{Stage, asked, heard, MayCall, went, Rest}
+use Rattle.turn_steps.specs.Left.{Stage, asked, heard, went, Rest}
 use Rattle.turn_steps.proofs.Asked.{went-asked, only_asked}
 
 -- the rest from stage g is the part from book b and then the rest from where it stops

@@ -1,10 +1,10 @@
 -- Each call of a caller's part leaves fewer calls to come.
-use Rattle.std.proofs.Common.{◌≡◌, ℕ, ◌+◌, ◌-◌, ◌*◌, ◌<◌, ◌≤◌, ◌==◌, Bool, true, false, List, [], ◌∷◌, map, length, Option, Some, None, refl, sym, ap, ◌∙◌, arith, inl, inr}
+use Rattle.std.proofs.Common.{◌≡◌, ℕ, ◌+◌, ◌-◌, ◌*◌, ◌<◌, ◌≤◌, ◌==◌, Bool, true, false, List, [], ◌∷◌, length, Option, Some, None, refl, ap, ◌∙◌, arith, inl, inr}
 use Rattle.std.specs.List.{filter}
 use Rattle.std.proofs.lemmas.Bool.{cases_Bool}
 use Rattle.std.proofs.lemmas.List.{length-map}
 use Rattle.sched_base.specs.declared.names.CallerId.{CallerId}
-use Rattle.queue_model.specs.Classes.{Next, quotas}
+use Rattle.queue_model.specs.Classes.{Next}
 use Rattle.queue_model.specs.Ticks.{is_expired}
 use Rattle.queue_model.specs.WaitList.{WaitItem, WaitList, expiry_of}
 use Rattle.queue_model.specs.Sweep.{due, fired, swept}
@@ -14,14 +14,12 @@ use Rattle.step_tables.specs.declared.tables.Kind.TheVariants.{Pinned, Shared, T
 use Rattle.step_tables.specs.declared.tables.Row.{Row}
 use Rattle.step_tables.specs.declared.tables.Script.{Script}
 use Rattle.task_machine.specs.declared.calls.Call.{Call}
-use Rattle.task_machine.specs.declared.calls.Call.TheVariants as calls
 use Rattle.task_machine.specs.declared.calls.Reply.{Reply}
-use Rattle.run_model.specs.TurnReader.{runs_left}
 use Rattle.run_model.specs.Replies.{is_rest, is_killed, has_reasons, takes_in, members}
 use Rattle.run_model.specs.Tables.{def_of, home_of, row_number, row_by, target}
-use Rattle.run_model.specs.Book.{Book, queued_as, queued, queued_all, filled, taken_from, untimed, row_ended}
+use Rattle.run_model.specs.Book.{Book, queued_as, queued, queued_all, filled, taken_from}
 use Rattle.run_model.proofs.TurnReadings.{next_spends}
-use Rattle.turn_steps.specs.Left.{Onward, by_class, by_draw, next_in, spent_in, draws_in, Left, gets, wakes, runs, acts, posts, drops, retires, returns, drawn, injects, carries, over, Stage, stage, at_runs, at_wakes, at_gets, at_acts, at_events, take_call, asked_in, waked, handed, acted, run_begun, taken, returned, dropped_live, dropped_as, injected, heard_in, draws_if, draws_now_in, drew, went, MayCall}
+use Rattle.turn_steps.specs.Left.{Onward, by_class, by_draw, next_in, spent_in, draws_in, Left, gets, wakes, runs, acts, posts, drops, retires, returns, drawn, injects, carries, over, Stage, at_runs, at_wakes, at_gets, at_acts, at_events, take_call, asked_in, waked, handed, acted, run_begun, taken, returned, dropped_live, dropped_as, injected, heard_in, draws_if, draws_now_in, went, MayCall}
 use Rattle.turn_steps.specs.Counts.{calls_after, calls_left}
 use Rattle.turn_steps.specs.Ranges.{IsFit}
 use Rattle.turn_steps.proofs.Asked.{by_ask}

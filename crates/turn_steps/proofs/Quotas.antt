@@ -1,6 +1,5 @@
 -- The quotas of a turn are at most depth + 3 in all.
-use Rattle.std.proofs.Common.{◌≡◌, ℕ, zero, suc, ◌+◌, ◌*◌, ◌<◌, ◌≤◌, true, false, nat_lt, min, List, length, refl, sym, ap, ◌∙◌, arith, inl, inr, zero-mul, if◌then◌else◌}
-use Rattle.std.specs.Int.{div_ceil}
+use Rattle.std.proofs.Common.{◌≡◌, ℕ, ◌+◌, ◌*◌, ◌<◌, ◌≤◌, nat_lt, min, List, length, refl, ap, ◌∙◌, arith, inl, inr, zero-mul}
 use Rattle.std.proofs.Math.Nat.{mul-le-mul_right, mul-add, add-mul}
 use Rattle.std.proofs.lemmas.Bool.{cases_Bool, cases_lt}
 use Rattle.std.proofs.lemmas.Grind.{div_ceil_times}

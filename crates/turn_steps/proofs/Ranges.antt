@@ -1,14 +1,12 @@
 -- What a caller names stays in range.
-use Rattle.std.proofs.Common.{◌≡◌, ℕ, ◌+◌, ◌*◌, ◌<◌, ◌==◌, not, ◌&&◌, Bool, true, false, List, [], ◌∷◌, map, length, Option, Some, None, refl, sym, ap, subst, arith, inl, inr, eq-eqb, if◌then◌else◌}
-use Rattle.std.specs.Prelude.{fold, find, int_lt, pos}
-use Rattle.std.specs.List.{AllByRecursion, filter}
-use Rattle.std.proofs.lemmas.Bool.{cases_Bool}
+use Rattle.std.proofs.Common.{◌≡◌, ℕ, ◌*◌, ◌<◌, ◌==◌, Bool, true, false, List, [], ◌∷◌, length, Option, Some, None, refl, sym, ap, subst, eq-eqb}
+use Rattle.std.specs.List.{AllByRecursion}
 use Rattle.sched_base.specs.declared.names.CallerId.{CallerId}
-use Rattle.sched_base.proofs.Inserted.{all-inserted, all-filter, all-map}
+use Rattle.queue_model.proofs.ItemTasks.{TimersOf, fired-of, swept-of, unlinked-of, armed-of}
 use Rattle.queue_model.specs.Classes.{Next}
-use Rattle.queue_model.specs.Ticks.{distance, is_set, is_expired, later}
-use Rattle.queue_model.specs.WaitList.{WaitItem, WaitList, expiry_of, with_expiry, is_of, without, placed, armed_at, armed, unlinked}
-use Rattle.queue_model.specs.Sweep.{due, fired, put_back, swept}
+use Rattle.queue_model.specs.Ticks.{later}
+use Rattle.queue_model.specs.WaitList.{WaitItem, WaitList, with_expiry}
+use Rattle.queue_model.specs.Sweep.{fired, swept}
 use Rattle.step_tables.specs.declared.tables.Action.{Action}
 use Rattle.step_tables.specs.declared.tables.Expiry.{Expiry}
 use Rattle.step_tables.specs.declared.tables.Expiry.TheVariants.{Keep, After, Never}
@@ -18,59 +16,21 @@ use Rattle.task_machine.specs.Step.{bit}
 use Rattle.task_machine.specs.declared.calls.Reply.{Reply}
 use Rattle.run_model.specs.Replies.{is_rest, is_killed, has_reasons, takes_in, members}
 use Rattle.run_model.specs.Tables.{home_of, row_by, target, row_number}
-use Rattle.run_model.specs.Book.{Book, queued, queued_all, filled, taken_from, untimed, timed, row_ended}
+use Rattle.run_model.specs.Book.{Book, queued, queued_all, taken_from, timed}
 use Rattle.turn_steps.specs.Left.{Onward, by_draw, next_in, spent_in, Left, gets, wakes, runs, acts, posts, drops, retires, returns, drawn, injects, carries, over, Stage, stage, at_runs, at_wakes, at_gets, at_acts, at_events, waked, handed, acted, run_begun, taken, returned, dropped_live, dropped_as, injected, heard_in, drew}
 use Rattle.turn_steps.specs.Has.{run_by, drawn_by}
-use Rattle.turn_steps.specs.Ranges.{AreSound, NamesIn, TimersIn, InRange, IsFit}
+use Rattle.turn_steps.specs.Ranges.{AreSound, TimersIn, InRange, IsFit}
 use Rattle.turn_steps.proofs.Measure.{wait-queued, wait-queued_all, wait-waked}
-
--- the items of a wait list are timers of n tasks
-abbrev pub Timers : ℕ → List WaitItem → Type 0
-Timers n items = AllByRecursion (λ y. y.task < n) items
 
 -- ---- wait lists
 
-pub fired-in : (n now : ℕ) (l : WaitList) → Timers n l.items → AllByRecursion (λ i. i < n) (fired now l)
-fired-in n now l h = all-map (λ (y : WaitItem). y.task) (λ i. i < n) _ (all-filter (λ (y : WaitItem). y.task < n) _ _ (all-filter (λ (y : WaitItem). y.task < n) _ l.items h))
+timed-in : (n T i : ℕ) (x : Expiry) (b : Book) → i < n → TimersIn n b → AllByRecursion (λ (y : WaitItem). y.task < n) (timed T i x b.wait).items
+timed-in n T i Keep b below h = h
+timed-in n T i (After ticks) b below h = armed-of (λ i. i < n) T i (with_expiry i (later T ticks) b.wait) below h
+timed-in n T i Never b below h = h
 
-placed-in : (n now i key : ℕ) (items : List WaitItem) → i < n → Timers n items → Timers n (placed now i key items)
-placed-in n now i key items below h = all-inserted (λ (y : WaitItem). y.task < n) _ _ items below h
-
-back-in : (n now : ℕ) (l : WaitList) (is : List ℕ) (items : List WaitItem) → AllByRecursion (λ i. i < n) is → Timers n items → Timers n (fold (λ (ys : List WaitItem) i. placed now i (expiry_of l i) ys) items is)
-back-in n now l [] items his h = h
-back-in n now l (i ∷ is) items his h = back-in n now l is (placed now i (expiry_of l i) items) his.1 (placed-in n now i (expiry_of l i) items his.0 h)
-
-pub swept-in : (n now : ℕ) (l : WaitList) → Timers n l.items → Timers n (swept now l).items
-swept-in n now l h =
-    back-in n now l (put_back now l) _
-    (all-map (λ (y : WaitItem). y.task) (λ i. i < n) _ (all-filter (λ (y : WaitItem). y.task < n) _ _ (all-filter (λ (y : WaitItem). y.task < n) _ l.items h)))
-    (all-filter (λ (y : WaitItem). y.task < n) _ l.items h)
-
-pub unlinked-in : (n i : ℕ) (l : WaitList) → Timers n l.items → Timers n (unlinked i l).items
-unlinked-in n i l h = all-filter (λ (y : WaitItem). y.task < n) _ l.items h
-
-moved-in : (n now i t : ℕ) (early : Bool) (items : List WaitItem) → i < n → Timers n items → Timers n (if early then placed now i t (without i items) else items)
-moved-in n now i t true items below h = placed-in n now i t (without i items) below (all-filter (λ (y : WaitItem). y.task < n) _ items h)
-moved-in n now i t false items below h = h
-
-armed_at-in : (n now i t : ℕ) (o : Option WaitItem) (items : List WaitItem) → i < n → Timers n items → Timers n (armed_at now i t o items)
-armed_at-in n now i t None items below h = placed-in n now i t items below h
-armed_at-in n now i t (Some y) items below h = moved-in n now i t (int_lt (distance t y.key) (pos 0)) items below h
-
-pub armed-in : (n now i : ℕ) (l : WaitList) → i < n → Timers n l.items → Timers n (armed now i l).items
-armed-in n now i l below h =
-    elim (cases_Bool (is_set (expiry_of l i))) [
-      | inl k ↦ rw k (armed_at-in n now i (expiry_of l i) (find (is_of i) l.items) l.items below h)
-      | inr k ↦ rw k h
-    ]
-
-timed-in : (n T i : ℕ) (x : Expiry) (l : WaitList) → i < n → Timers n l.items → Timers n (timed T i x l).items
-timed-in n T i Keep l below h = h
-timed-in n T i (After ticks) l below h = armed-in n T i (with_expiry i (later T ticks) l) below h
-timed-in n T i Never l below h = h
-
-same-timers : (n : ℕ) (l m : WaitList) → m ≡ l → Timers n l.items → Timers n m.items
-same-timers n l m e h = subst (λ (k : WaitList). Timers n k.items) (sym e) h
+same-timers : (n : ℕ) (l m : WaitList) → m ≡ l → TimersOf (λ i. i < n) l → TimersOf (λ i. i < n) m
+same-timers n l m e h = subst (TimersOf (λ i. i < n)) (sym e) h
 
 -- ---- stages after silent changes
 
@@ -82,11 +42,11 @@ in-wakes s n [] b his h = in-runs s n b h
 in-wakes s n (i ∷ is) b his h = record { names = his; timers = h }
 
 pub in-gets : (s : Script) (T n : ℕ) (gs : List ℕ) (b : Book) → AllByRecursion (λ g. 64 * g < n) gs → TimersIn n b → InRange n (at_gets s T gs b)
-in-gets s T n [] b hgs h = in-wakes s n (fired T b.wait) (record b { wait = swept T b.wait }) (fired-in n T b.wait h) (swept-in n T b.wait h)
+in-gets s T n [] b hgs h = in-wakes s n (fired T b.wait) (record b { wait = swept T b.wait }) (fired-of (λ i. i < n) T b.wait h) (swept-of (λ i. i < n) T b.wait h)
 in-gets s T n (g ∷ gs) b hgs h = record { names = hgs; timers = h }
 
 in-acts : (n T : ℕ) (more : List Action) (i : ℕ) (row : Row) (q : Onward) (b : Book) → i < n → AreSound n more → TimersIn n b → InRange n (at_acts T more i row q b)
-in-acts n T [] i row q b below sound h = record { names = tt; timers = timed-in n T i row.expiry b.wait below h }
+in-acts n T [] i row q b below sound h = record { names = tt; timers = timed-in n T i row.expiry b below h }
 in-acts n T (a ∷ more) i row q b below sound h = record { names = sound; timers = h }
 
 pub in-events : (n : ℕ) (more : List Action) (b : Book) → AreSound n more → TimersIn n b → InRange n (at_events more b)
@@ -137,7 +97,7 @@ InRange-heard s w T r (runs q) b fit run next draw h = in-taken s T r q (next_in
 InRange-heard s w T r (acts a more i row q) b fit run next draw h = in-acted s w (length s.tasks) T (is_rest r) (target a) more i row q b (run i (same-bit i)) h.names.1 h.timers
 InRange-heard s w T r (posts j more i row q) b fit run next draw h = in-acts (length s.tasks) T more i row q b (run i (same-bit i)) h.names h.timers
 InRange-heard s w T r (drops i q) b fit run next draw h = in-dropped s (length s.tasks) (is_killed r) (has_reasons r) i q b h.timers
-InRange-heard s w T r (retires held i q) b fit run next draw h = record { names = tt; timers = unlinked-in (length s.tasks) i b.wait h.timers }
+InRange-heard s w T r (retires held i q) b fit run next draw h = record { names = tt; timers = unlinked-of (λ i. i < length s.tasks) i b.wait h.timers }
 InRange-heard s w T r (returns i q) b fit run next draw h = record { names = tt; timers = h.timers }
 InRange-heard s w T r (drawn i n) b fit run next draw h = in-begun s T r (is_killed r) i (by_draw n) b fit (draw i (same-bit i)) h.timers
 InRange-heard s w T r (injects a more) b fit run next draw h = in-injected (length s.tasks) (is_rest r) (target a) more b h.names.1 h.timers

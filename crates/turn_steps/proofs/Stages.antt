@@ -1,6 +1,5 @@
 -- Which tasks a caller has at the stages that follow silent changes and replies.
-use Rattle.std.proofs.Common.{◌≡◌, ℕ, zero, suc, ◌+◌, ◌==◌, ◌||◌, Bool, true, false, List, [], ◌∷◌, refl, sym, ap, ◌∙◌, arith, if◌then◌else◌}
-use Rattle.std.specs.List.{range_with_len}
+use Rattle.std.proofs.Common.{◌≡◌, ℕ, ◌+◌, ◌==◌, ◌||◌, Bool, true, false, List, [], ◌∷◌, refl, ◌∙◌, arith, if◌then◌else◌}
 use Rattle.sched_base.specs.declared.names.CallerId.{CallerId}
 use Rattle.queue_model.specs.Sweep.{fired, swept}
 use Rattle.step_tables.specs.declared.tables.Action.{Action}
@@ -12,7 +11,7 @@ use Rattle.run_model.specs.Replies.{takes_in}
 use Rattle.run_model.specs.Tables.{home_of, row_by}
 use Rattle.run_model.specs.Book.{Book, queued}
 use Rattle.turn_steps.specs.Left.{Onward, Stage, at_runs, at_gets, at_wakes, at_acts, at_events, acted, handed, run_begun, returned, dropped_live, dropped_as, injected, waked}
-use Rattle.turn_steps.specs.Times.{times, listed}
+use Rattle.turn_steps.specs.Times.{listed}
 use Rattle.turn_steps.specs.Has.{due, run_by, drawn_by}
 use Rattle.turn_steps.proofs.Books.{listed-queued, listed-filled}
 

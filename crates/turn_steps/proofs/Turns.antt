@@ -12,17 +12,15 @@ use Rattle.task_machine.specs.declared.calls.Call.{Call}
 use Rattle.task_machine.specs.declared.calls.Call.TheVariants.{Wake, Post, Draw, Take}
 use Rattle.task_machine.specs.declared.calls.Reply.{Reply}
 use Rattle.task_machine.specs.declared.calls.Entry.{Entry}
-use Rattle.run_model.specs.Parts.{Part, Quiet, Nothing, Then, Asks, Makes, Either, Each}
+use Rattle.run_model.specs.Parts.{Part, Quiet, Nothing, Then, Makes, Either, Each}
 use Rattle.run_model.specs.Replies.{is_rest, is_killed, has_reasons, takes_in}
 use Rattle.run_model.specs.Tables.{home_of, row_by, groups, target, actions_in}
 use Rattle.run_model.specs.Book.{Book, queued, filled, taken_from, untimed, row_ended}
 use Rattle.run_model.specs.Turn.{Posts, Acts, Gets, Fires, Hands, Returns, Retires, Drops, RunsRow, RunOf, RunsOf, Runs, DrawsOf, Draws, Turn}
 use Rattle.run_model.specs.TurnReader.{runs_left}
 use Rattle.run_model.specs.Lawful.{Injects}
-use Rattle.run_model.proofs.Readings.{some_inj}
 use Rattle.run_model.proofs.TurnReadings.{next_spends}
-use Rattle.turn_steps.specs.Left.{Onward, by_class, by_draw, next_in, spent_in, Left, gets, wakes, runs, acts, posts, drops, retires, returns, drawn, injects, carries, over, Stage, stage, at_runs, at_wakes, at_sweep, at_gets, at_acts, at_events, begun, injector, take_call, asked, handed, acted, run_begun, taken, returned, dropped_live, dropped_as, injected, heard, draws_if, draws_now, drew, MayCall, went, Rest}
-use Rattle.turn_steps.specs.Has.{caller}
+use Rattle.turn_steps.specs.Left.{Onward, by_class, by_draw, next_in, spent_in, gets, wakes, runs, acts, posts, drops, retires, returns, drawn, injects, carries, over, Stage, stage, at_runs, at_wakes, at_sweep, at_gets, at_acts, at_events, begun, injector, take_call, asked, handed, acted, run_begun, taken, returned, dropped_live, dropped_as, injected, draws_if, draws_now, drew, went, Rest}
 use Rattle.turn_steps.specs.Laws.{TurnsAreRests, InjectsAreRests}
 use Rattle.turn_steps.proofs.Leads.{Leads, leads-quiet, leads-then, leads-asks, leads-from, leads-each}
 

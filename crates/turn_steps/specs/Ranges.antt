@@ -1,5 +1,5 @@
 -- What a caller names is there (docs/MODEL.md, "What is left of a turn").
-use Rattle.std.specs.Prelude.{◌≡◌, ℕ, ◌+◌, ◌*◌, ◌<◌, ◌≤◌, IsTrue, List, ◌∷◌, length}
+use Rattle.std.specs.Prelude.{ℕ, ◌+◌, ◌*◌, ◌<◌, ◌≤◌, IsTrue, List, ◌∷◌, length}
 use Rattle.std.specs.List.{AllByRecursion}
 use Rattle.step_tables.specs.declared.tables.Action.{Action}
 use Rattle.step_tables.specs.declared.tables.Script.{Script}

@@ -1,5 +1,5 @@
 -- The begin of a caller's part, whatever the others do (docs/MODEL.md, "What is left of a turn").
-use Rattle.std.specs.Prelude.{◌≡◌, ℕ, List, [], ◌∷◌, Some}
+use Rattle.std.specs.Prelude.{◌≡◌, ℕ, List, [], ◌∷◌}
 use Rattle.sched_base.specs.declared.names.CallerId.{CallerId}
 use Rattle.step_tables.specs.declared.tables.Script.{Script}
 use Rattle.task_machine.specs.declared.calls.Entry.{Entry}

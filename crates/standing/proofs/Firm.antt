@@ -1,0 +1,70 @@
+-- All that stands together before a round holds at the opening and after each round.
+use Rattle.std.proofs.Common.{◌≡◌, ℕ, ◌+◌, ◌*◌, ◌<◌, List, [], ◌∷◌, IsTrue, sym, arith, subst}
+use Rattle.step_tables.specs.declared.tables.Script.{Script}
+use Rattle.step_tables.specs.Sound.{is_sound}
+use Rattle.run_model.specs.Run.{Round}
+use Rattle.run_model.specs.Lawful.{RoundOf}
+use Rattle.run_model.specs.Standing.{Standing, opening, next_tick}
+use Rattle.turn_steps.proofs.Fit.{sound_parts, within-parts, IsFit-sound}
+use Rattle.std.proofs.lemmas.Bool.{leb-true}
+use Rattle.standing.specs.Between.{round_takes}
+use Rattle.standing.specs.Firm.{Firm}
+use Rattle.standing.specs.Passes.{Passes}
+use Rattle.standing.proofs.ClockKept.{clock-round, clock-next, clock-opening, DelaysAreIn-sound}
+use Rattle.standing.proofs.HomesKept.{HomesBetween-round, HomesBetween-opening, TimersHaveHomes-sound}
+use Rattle.standing.proofs.Opening.{KeepsBetween-opening}
+use Rattle.standing.proofs.Rounds.{KeepsBetween-round}
+
+pub firm-opening : (s : Script) → IsTrue (is_sound s) → Firm s s.start 0 (opening s)
+firm-opening s h = record {
+  tick = (let le = leb-true s.start 4294967295 (sound_parts s h).start in omega arith);
+  places = KeepsBetween-opening s;
+  homes = HomesBetween-opening s;
+  clock = clock-opening s;
+}
+
+pub firm-round : (s : Script) (r T limit : ℕ) (old : Standing) (round : Round) (new : Standing) → IsTrue (is_sound s) → Firm s T limit old → RoundOf s r T old round new → Firm s (next_tick s r T new) (limit + round_takes s) new
+firm-round s r T limit old round new h firm is =
+    let fit = IsFit-sound s h in
+    let places = KeepsBetween-round s r T limit old round new fit firm.places is in
+    let step = within-parts 1 1048576 s.step (sound_parts s h).step in
+    let after = clock-round s r T limit old round new fit firm.tick (DelaysAreIn-sound s h) firm.places firm.clock is in
+    let next = clock-next s r T new firm.tick (omega (arith, step.1)) places.books after in
+    record {
+      tick = next.0;
+      places = places;
+      homes = HomesBetween-round s r T limit old round new (TimersHaveHomes-sound s h) firm.places firm.homes is;
+      clock = next.1;
+    }
+
+-- what whole rounds lead to
+pub record Firmly (s : Script) (limit r q U : ℕ) (new : Standing) : Type 0 where
+  pub count : ℕ
+  pub rounds : q ≡ r + count
+  pub below : q < s.rounds
+  pub firm : Firm s U (limit + count * round_takes s) new
+
+pub firm-passes : (s : Script) (limit r T : ℕ) (old : Standing) (rounds : List Round) (q U : ℕ) (new : Standing) → IsTrue (is_sound s) → r < s.rounds → Firm s T limit old → Passes s r T old rounds q U new → Firmly s limit r q U new
+firm-passes s limit r T old [] q U new h lt firm p =
+    let same : limit ≡ limit + 0 * round_takes s = omega arith in
+    record {
+      count = 0;
+      rounds = omega (arith, p.0);
+      below = omega (arith, p.0);
+      firm = subst (λ (st : Standing). Firm s U (limit + 0 * round_takes s) st) (sym p.2) (subst (λ (V : ℕ). Firm s V (limit + 0 * round_takes s) old) (sym p.1) (subst (λ (n : ℕ). Firm s T n old) same firm));
+    }
+firm-passes s limit r T old (round ∷ more) q U new h lt firm p =
+    let mid = p.0 in
+    let ne = p.3 in
+    let after = firm-round s r T limit old round mid h firm p.1 in
+    let later = firm-passes s (limit + round_takes s) (r + 1) (next_tick s r T mid) mid more q U new h (omega arith) after p.4 in
+    let same : limit + round_takes s + later.count * round_takes s ≡ limit + (later.count + 1) * round_takes s = one_more (round_takes s) later.count limit in
+    record {
+      count = later.count + 1;
+      rounds = omega (arith, later.rounds);
+      below = later.below;
+      firm = subst (λ (n : ℕ). Firm s U n new) same later.firm;
+    }
+  where
+    one_more : (t n limit : ℕ) → limit + t + n * t ≡ limit + (n + 1) * t
+    one_more t n limit = omega arith
