@@ -1,16 +1,22 @@
 -- What a call makes of a pass.
-use Rattle.std.proofs.Common.{◌≡◌, ℕ, ◌+◌, false, List, [], ◌∷◌, ◌++◌, refl, sym, ap, subst, ◌∙◌, arith}
+use Rattle.std.proofs.Common.{◌≡◌, ℕ, ◌+◌, ◌<◌, false, List, [], ◌∷◌, ◌++◌, length, get_or, set, refl, sym, ap, subst, ◌∙◌, inl, inr, arith, eq-eqb, ne_eqb}
+use Rattle.std.proofs.lemmas.Bool.{cases_eq}
+use Rattle.std.proofs.lemmas.List.{get_or-set_same, get_or-set_other}
+use Rattle.std.proofs.Math.ListN.{length-set}
 use Rattle.atomic_table.specs.Table.{Me}
 use Rattle.atomic_table.specs.Seated.{TableId}
 use Rattle.task_machine.specs.declared.calls.Call.{Call}
+use Rattle.task_machine.specs.declared.calls.Call.TheVariants as calls
 use Rattle.task_machine.specs.declared.calls.Reply.{Reply}
 use Rattle.task_machine.specs.declared.calls.Entry.{Entry}
 use Rattle.task_machine.specs.Step.{task_at, bit}
 use Rattle.task_machine.specs.Since.{is_take}
+use Rattle.task_machine.specs.Own.{own_at, own_of}
 use Rattle.wake_board.specs.declared.body.Body.{Body}
 use Rattle.wake_board.specs.declared.views.View.{View}
 use Rattle.wake_board.specs.Start.{Start, start_in}
-use Rattle.wake_board.specs.Seen.{Held, entry_by, own_log, logged, with_call, Attests, Calls, Told}
+use Rattle.wake_board.specs.Seen.{Held, entry_by, own_log, logged, with_call, own_view, Attests, Calls, Told}
+use Rattle.wake_board.specs.Ends.{own_by}
 use Rattle.wake_board.specs.Own.{takes_in, held_by, IsPass}
 
 pub takes_in-end : (i : ℕ) (es : List Entry) (e : Entry) → takes_in i (es ++ e ∷ []) ≡ takes_in i es + bit (is_take i e.call)
@@ -45,3 +51,35 @@ Calls-told board later who takes me new c a same r t =
     let log : own_log new.0.logs ≡ own_log me.0.logs ++ f ∷ [] = ap (λ (x : Me Body View). own_log x.0.logs) t.seat ∙ ap (λ (x : Entry). own_log me.0.logs ++ x ∷ []) one in
     let attested : Attests start who c a (own_log me.0.logs ++ f ∷ []) = subst (λ (n : ℕ). Attests start n c a (own_log me.0.logs ++ f ∷ [])) r.number (subst (Attests start me.0.first c a) log t.attested) in
     record { entry = grown; attested = subst (λ (h : Held). Attests start who c a h.entries) (sym grown) attested }
+
+-- what a pass has of a task, by its seat and as contracts see it
+pub own_view-held : (board : TableId) (who : ℕ) (takes : List ℕ) (me : Me Body View) (i : ℕ) → IsPass who takes me → own_view me.0 i ≡ own_by (held_by board who me.0) i
+own_view-held board who takes me i r =
+    ap (λ (n : ℕ). own_of i (own_at n (task_at (start_in me.0.start).state i).place) (own_log me.0.logs)) r.number
+
+-- a take raises the number that the pass keeps
+pub IsPass-taken : (who : ℕ) (takes : List ℕ) (me new : Me Body View) (i n : ℕ) (a : Reply) → IsPass who takes me → Told me (calls.Take (record { 0 = i })) a new → n ≡ get_or takes i 0 + 1 → i < length takes → IsPass who (set takes i n) new
+IsPass-taken who takes me new i n a r t is within =
+    let c : Call = calls.Take (record { 0 = i }) in
+    let e : Entry = entry_by me.0.first c a in
+    let o : Start = start_in me.0.start in
+    let there : IsPass who (set takes i n) (logged me.0 e, me.1) = record {
+      log = refl;
+      number = r.number;
+      slots = r.slots;
+      sized = length-set takes i n ∙ r.sized;
+      known = λ j l h w.
+          let more = takes_in-end j (own_log me.0.logs) e in
+          let before = r.known j l h w in
+          elim (cases_eq j i) [
+            | inl same ↦
+                (let one : bit (is_take j c) ≡ 1 = ap bit (eq-eqb j i same) in
+                let here : get_or (set takes i n) j 0 ≡ n = ap (λ (q : ℕ). get_or (set takes i n) q 0) same ∙ get_or-set_same takes i n 0 within in
+                let old : get_or takes j 0 ≡ get_or takes i 0 = ap (λ (q : ℕ). get_or takes q 0) same in
+                here ∙ (let z : n ≡ (task_at o.state j).takes + takes_in j (own_log me.0.logs ++ e ∷ []) = omega arith in z))
+            | inr ne ↦
+                (let none : bit (is_take j c) ≡ 0 = ap bit (ne_eqb j i ne) in
+                get_or-set_other takes i j n 0 ne ∙ (before ∙ (let z : (task_at o.state j).takes + takes_in j (own_log me.0.logs) ≡ (task_at o.state j).takes + takes_in j (own_log me.0.logs ++ e ∷ []) = omega arith in z)))
+          ];
+    } in
+    subst (IsPass who (set takes i n)) (sym t.seat) there

@@ -1,9 +1,13 @@
+pub mod Boxes
 pub mod Deals
 pub mod Ends
 pub mod Grown
 pub mod Joins
+pub mod Known
+pub mod Looks
 pub mod Moves
 pub mod Opens
+pub mod Runs
 pub mod Splits
 pub mod Tables
 pub mod Tasks

@@ -25,7 +25,7 @@ use Rattle.wake_board.specs.declared.views.Opening.{Opening}
 use Rattle.wake_board.specs.declared.views.View.{View}
 use Rattle.wake_board.specs.Start.{Start, start_of}
 use Rattle.wake_board.specs.Rule.{now_of, IsHomed, IsKept}
-use Rattle.wake_board.specs.Seen.{entry_by, own_log, logged, Told, TellsWake, TellsKill}
+use Rattle.wake_board.specs.Seen.{entry_by, own_log, logged, Told, TellsWake, TellsCall}
 use Rattle.wake_board.proofs.Tasks.{OneTask, one-after, each_task, worded-one, SameLead, same_lead, housed-same}
 use Rattle.wake_board.proofs.Moves.{own_first, kept-call, attests-call}
 
@@ -152,7 +152,7 @@ wakes o slots id me i f x bits one within some_reason low place is =
     let P : ℕ → ℕ → Type 0 = λ y b. table.Allows (IsKept o) slots id me y (λ n. bit_or n b) (TellsWake (table.step slots y b 0 none) me) in
     subst (λ (y : ℕ). P y bits) (sym at) (subst (P (suc i)) (sym is) (wakes_at o slots id me i f one within some_reason low))
 
-pub kills_at : (o : Opening) (slots id : ℕ) (me : table.Me Body View) (i : ℕ) → me.0.logs ≡ own_log me.0.logs ∷ [] → i < length (start_of o).state.tasks → table.Allows (IsKept o) slots id me (suc i) (λ n. bit_or n kill_bits) (TellsKill (table.step slots (suc i) kill_bits 0 none) me)
+pub kills_at : (o : Opening) (slots id : ℕ) (me : table.Me Body View) (i : ℕ) → me.0.logs ≡ own_log me.0.logs ∷ [] → i < length (start_of o).state.tasks → table.Allows (IsKept o) slots id me (suc i) (λ n. bit_or n kill_bits) (TellsCall calls.Kill (table.step slots (suc i) kill_bits 0 none) me)
 kills_at o slots id me i one within s r sized at small =
     let v : View = me.0 in
     let k : CallerId = record { 0 = v.first } in
@@ -179,8 +179,8 @@ kills_at o slots id me i one within s r sized at small =
           subst (λ (x : ℕ). Told me (calls.Kill (record { 0 = x })) a (logged v (entry_by v.first c a), me.1)) same_task (told o s r id me c a at one allowed),
     )
 
-pub kills : (o : Opening) (slots id : ℕ) (me : table.Me Body View) (i x bits : ℕ) → me.0.logs ≡ own_log me.0.logs ∷ [] → i < length (start_of o).state.tasks → x ≡ i + 1 → bits ≡ kill_bits → table.Allows (IsKept o) slots id me x (λ n. bit_or n bits) (TellsKill (table.step slots x bits 0 none) me)
+pub kills : (o : Opening) (slots id : ℕ) (me : table.Me Body View) (i x bits : ℕ) → me.0.logs ≡ own_log me.0.logs ∷ [] → i < length (start_of o).state.tasks → x ≡ i + 1 → bits ≡ kill_bits → table.Allows (IsKept o) slots id me x (λ n. bit_or n bits) (TellsCall calls.Kill (table.step slots x bits 0 none) me)
 kills o slots id me i x bits one within place is =
     let at : x ≡ suc i = omega arith in
-    let P : ℕ → ℕ → Type 0 = λ y b. table.Allows (IsKept o) slots id me y (λ n. bit_or n b) (TellsKill (table.step slots y b 0 none) me) in
+    let P : ℕ → ℕ → Type 0 = λ y b. table.Allows (IsKept o) slots id me y (λ n. bit_or n b) (TellsCall calls.Kill (table.step slots y b 0 none) me) in
     subst (λ (y : ℕ). P y bits) (sym at) (subst (P (suc i)) (sym is) (kills_at o slots id me i one within))

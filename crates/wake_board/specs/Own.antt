@@ -1,5 +1,7 @@
 -- What a pass has by its own entries (docs/BOARD.md, "Passes").
-use Rattle.std.specs.Prelude.{◌≡◌, ℕ, ◌+◌, ◌<◌, List, [], ◌∷◌, length, slice_index}
+use Rattle.std.specs.Prelude.{◌≡◌, ◌≢◌, ℕ, ◌+◌, ◌<◌, List, [], ◌∷◌, length, slice_index}
+use mathlib.Core.Option.{some}
+use lib.ListN.{get_elem?}
 use Rattle.task_machine.specs.declared.calls.Entry.{Entry}
 use Rattle.task_machine.specs.Step.{task_at, bit}
 use Rattle.task_machine.specs.Since.{is_take}
@@ -40,3 +42,7 @@ pub record IsPass (who : ℕ) (takes : List ℕ) (me : Me Body View) : Type 0 wh
   pub slots : Carries me.1 me.0.outs
   pub sized : length takes ≡ length (start_in me.0.start).state.tasks
   pub known : (i : ℕ) → i < length (start_in me.0.start).state.tasks → home_of (start_in me.0.start) i ≡ who → who < (start_in me.0.start).state.workers → slice_index takes i ≡ known_takes (start_in me.0.start) (own_log me.0.logs) i
+
+-- no body of task i is out with the pass
+abbrev pub NoBody : List Out → ℕ → Type 0
+NoBody outs i = (j : ℕ) (x : Out) → get_elem? outs j ≡ some x → x.task ≢ i

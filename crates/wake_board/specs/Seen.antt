@@ -1,18 +1,23 @@
 -- What a pass and a board are to contracts, and what one call tells (docs/BOARD.md, "Passes").
-use Rattle.std.specs.Prelude.{◌≡◌, ℕ, suc, ◌+◌, List, [], ◌∷◌, ◌++◌, None}
+use Rattle.std.specs.Prelude.{◌≡◌, ℕ, suc, ◌+◌, ◌*◌, ◌/◌, ◌%◌, ◌^◌, ◌<◌, ◌≤◌, List, [], ◌∷◌, ◌++◌, length, None}
+use Rattle.std.specs.Int.{bit_at}
 use Rattle.atomic_table.specs.Seated.{TableId}
 use Rattle.atomic_table.specs.Table.{Me, Step}
+use Rattle.sched_base.specs.declared.names.TaskId.{TaskId}
 use Rattle.task_machine.specs.declared.calls.Call.{Call}
 use Rattle.task_machine.specs.declared.calls.Call.TheVariants as calls
 use Rattle.task_machine.specs.declared.calls.Reply.{Reply}
 use Rattle.task_machine.specs.declared.calls.Reply.TheVariants as replies
 use Rattle.task_machine.specs.declared.calls.Entry.{Entry}
+use Rattle.task_machine.specs.Step.{task_at}
 use Rattle.task_machine.specs.History.{Legal, calls_of}
+use Rattle.task_machine.specs.Own.{Own, away, own_at, own_of}
 use Rattle.task_word.specs.Word.{seen_in, wake_bits}
 use Rattle.wake_board.specs.declared.body.Body.{Body}
 use Rattle.wake_board.specs.declared.views.Out.{Out}
 use Rattle.wake_board.specs.declared.views.View.{View}
-use Rattle.wake_board.specs.Start.{Start, start_in}
+use Rattle.wake_board.specs.Rows.{box_at}
+use Rattle.wake_board.specs.Start.{Start, start_in, home_of}
 
 -- a pass: of which board it is, its caller's number, with what the board was opened, its own entries, the tasks that it
 -- found absent from the shared box, and the bodies that are out with it
@@ -60,14 +65,46 @@ pub record Told (me : Me Body View) (c : Call) (r : Reply) (new : Me Body View) 
   pub seat : new ≡ (logged me.0 (entry_by me.0.first c r), me.1)
   pub attested : Attests (start_in me.0.start) me.0.first c r (own_log new.0.logs)
 
--- a wake and a kill by their word and operand
+-- the pass is of the board
+pub record IsPassOf (b : Laid) (p : Held) : Type 0 where
+  pub board : p.board ≡ b.board
+  pub start : p.start ≡ b.start
+
+-- a wake by its word and operand, and each other call on a task's word
 abbrev pub TellsWake : Step Body → Me Body View → ℕ → Me Body View → Type 0
 TellsWake st me n new =
     (i f : ℕ) → st.word ≡ i + 1 → st.first ≡ wake_bits f → Told me (calls.Wake (record { 0 = i }) f) (replies.Task (seen_in n)) new
 
-abbrev pub TellsKill : Step Body → Me Body View → ℕ → Me Body View → Type 0
-TellsKill st me n new =
-    (i : ℕ) → st.word ≡ i + 1 → Told me (calls.Kill (record { 0 = i })) (replies.Task (seen_in n)) new
+abbrev pub TellsCall : (TaskId → Call) → Step Body → Me Body View → ℕ → Me Body View → Type 0
+TellsCall call st me n new =
+    (i : ℕ) → st.word ≡ i + 1 → Told me (call (record { 0 = i })) (replies.Task (seen_in n)) new
+
+-- a bit as the operand of a step
+abbrev pub bit_mask : ℕ → ℕ
+bit_mask j = 1 * 2 ^ j % 2 ^ 64
+
+-- how many tasks there are, by a view
+abbrev pub count_in : View → ℕ
+count_in v = length (start_in v.start).state.tasks
+
+-- a post by its word and operand
+abbrev pub TellsPost : Step Body → Me Body View → ℕ → Me Body View → Type 0
+TellsPost st me n new =
+    (i b : ℕ) → i < count_in me.0 → b ≤ (start_in me.0.start).state.workers → st.word ≡ box_at (count_in me.0) b (i / 64) → st.first ≡ bit_mask (i % 64) → Told me (calls.Post (record { 0 = i }) b) replies.Done new
+
+-- what a seat's caller has of task i, by its own log
+abbrev pub own_view : View → ℕ → Own
+own_view v i = own_of i (own_at v.first (task_at (start_in v.start).state i).place) (own_log v.logs)
+
+-- each task of a word was not the caller's before, and has the caller's box as its home
+abbrev pub BringsHome : View → ℕ → ℕ → Type 0
+BringsHome v g n =
+    (j : ℕ) → j < 64 → bit_at n j ≡ 1 → (home_of (start_in v.start) (64 * g + j) ≡ v.first) × (own_view v (64 * g + j) ≡ away)
+
+-- a get by its word
+abbrev pub TellsGet : Step Body → Me Body View → ℕ → Me Body View → Type 0
+TellsGet st me n new =
+    (g : ℕ) → 64 * g < count_in me.0 → st.word ≡ box_at (count_in me.0) me.0.first g → Told me (calls.Get g) (replies.Group n) new × BringsHome me.0 g n
 
 -- a seat with several logs gives up the first
 abbrev pub rest_of : List (List Entry) → List (List Entry)

@@ -1,18 +1,22 @@
 //! The board and its calls.
 
-ghost use Rattle.std.specs.Prelude.{◌≡◌, ◌≢◌, ◌<◌, length, IfOk};
+ghost use Rattle.std.specs.Prelude.{◌≡◌, ◌≢◌, ℕ, ◌+◌, ◌-◌, ◌*◌, ◌^◌, ◌<◌, ◌≤◌, length, IfOk};
+ghost use Rattle.std.specs.Int.{bit_at};
+ghost use Rattle.task_machine.specs.Own.{away, holding, running};
 ghost use Rattle.task_machine.specs.Step.{State};
 ghost use Rattle.task_machine.specs.declared.calls.Call.TheVariants as calls;
 ghost use Rattle.task_machine.specs.declared.calls.Reply.TheVariants as replies;
 ghost use Rattle.wake_board.specs.Between.{StandBetween, FewTakes};
-ghost use Rattle.wake_board.specs.Ends.{Opens, AllBack, Finishes};
-ghost use Rattle.wake_board.specs.Seen.{Calls};
+ghost use Rattle.wake_board.specs.Start.{home_of};
+ghost use Rattle.wake_board.specs.Own.{known_takes, NoBody};
+ghost use Rattle.wake_board.specs.Ends.{Opens, AllBack, Finishes, own_by};
+ghost use Rattle.wake_board.specs.Seen.{Calls, IsPassOf};
 
 use crate::body::Body;
 use crate::open::{deal_passes, gather, lay, opening_of};
 use crate::pass::Pass;
 use crate::passes::Passes;
-use crate::views::{Kills, Opening, Ruling, View, Wakes};
+use crate::views::{Drops, Gets, Kills, Opening, Posts, Retires, Ruling, Takes, View, Wakes};
 use crate::words::Words;
 use atomic_table::Table;
 use sched_base::{Reasons, TaskId};
@@ -20,7 +24,10 @@ use std::alloc::{AllocError, Global};
 use std::marker::Model;
 use step_tables::Nexts;
 use task_machine::Seen;
-use task_word::{KILL_BITS, seen_of, wake_bits_of};
+use task_word::{DROP_MASK, GONE, KILL_BITS, after_take, seen_of, wake_bits_of};
+
+/// How many tasks a group has.
+const GROUP: u32 = 64;
 
 /// The words of all tasks and boxes, which all callers change at once. Contracts see which board it is, and with what it
 /// was opened.
@@ -75,7 +82,7 @@ impl Board {
 
     /// Adds reasons to a task, and says what was seen of it. Where it rested it is in the caller's hands from now on.
     pub fn wake(&self, pass: &mut Pass, id: TaskId, reasons: Reasons) -> Seen
-        requires board { pass.old.board ≡ self.now.board }
+        requires board { IsPassOf self.now pass.old }
         requires exists { id.0 < length self.now.start.state.tasks }
         requires some { reasons ≢ 0 }
         ensures { Calls pass.old (calls.Wake id reasons) (replies.Task result) pass.new }
@@ -90,7 +97,7 @@ impl Board {
 
     /// Marks a task as killed, and says what was seen of it. Where it rested it is in the caller's hands from now on.
     pub fn kill(&self, pass: &mut Pass, id: TaskId) -> Seen
-        requires board { pass.old.board ≡ self.now.board }
+        requires board { IsPassOf self.now pass.old }
         requires exists { id.0 < length self.now.start.state.tasks }
         ensures { Calls pass.old (calls.Kill id) (replies.Task result) pass.new }
     {
@@ -98,6 +105,84 @@ impl Board {
             .table
             .shared
             .fetch_or::<Kills>(&mut pass.seat, id.0 as usize + 1, KILL_BITS);
+        seen_of(word)
+    }
+
+    /// Puts a task that is in the caller's hands into the box that is its home.
+    pub fn post(&self, pass: &mut Pass, id: TaskId, boxno: u32)
+        requires board { IsPassOf self.now pass.old }
+        requires exists { id.0 < length self.now.start.state.tasks }
+        requires box_exists { boxno ≤ self.now.start.state.workers }
+        requires held { own_by pass.old id.0 ≡ holding }
+        requires home { home_of self.now.start id.0 ≡ boxno }
+        ensures { Calls pass.old (calls.Post id boxno) replies.Done pass.new }
+    {
+        let at = self.words.box_place(boxno, id.0 / GROUP);
+        let bit = 1u64 << (id.0 % GROUP);
+        self.table.shared.fetch_or::<Posts>(&mut pass.seat, at, bit);
+    }
+
+    /// Takes the tasks of a group out of the caller's own box into its hands: bit j stands for task `64 * group + j`.
+    /// The caller is a worker.
+    pub fn get(&self, pass: &mut Pass, group: u32) -> u64
+        requires board { IsPassOf self.now pass.old }
+        requires worker { pass.old.who < self.now.start.state.workers }
+        requires exists { 64 * group < length self.now.start.state.tasks }
+        ensures calls { Calls pass.old (calls.Get group) (replies.Group result) pass.new }
+        ensures homes { (j : ℕ) → j < 64 → bit_at result j ≡ 1 → home_of self.now.start (64 * group + j) ≡ pass.old.who }
+        ensures fresh { (j : ℕ) → j < 64 → bit_at result j ≡ 1 → own_by pass.old (64 * group + j) ≡ away }
+    {
+        let at = self.words.box_place(pass.who.0, group);
+        self.table.shared.swap::<Gets>(&mut pass.seat, at, 0)
+    }
+
+    /// Takes a task of the caller's own, which is in its hands, to run it.
+    pub fn take(&self, pass: &mut Pass, id: TaskId) -> Seen
+        requires board { IsPassOf self.now pass.old }
+        requires exists { id.0 < length self.now.start.state.tasks }
+        requires held { own_by pass.old id.0 ≡ holding }
+        requires home { home_of self.now.start id.0 ≡ pass.old.who }
+        requires worker { pass.old.who < self.now.start.state.workers }
+        requires room { known_takes self.now.start pass.old.entries id.0 < 2 ^ 48 - 1 }
+        ensures { Calls pass.old (calls.Take id) (replies.Task result) pass.new }
+    {
+        let index = id.0 as usize;
+        let takes = pass.takes[index];
+        let word = self
+            .table
+            .shared
+            .swap::<Takes>(&mut pass.seat, index + 1, after_take(takes));
+        pass.takes[index] = takes + 1;
+        seen_of(word)
+    }
+
+    /// Ends the caller's run of a task: where reasons or the killed flag were seen, the task is in its hands from now on.
+    pub fn drop_run(&self, pass: &mut Pass, id: TaskId) -> Seen
+        requires board { IsPassOf self.now pass.old }
+        requires exists { id.0 < length self.now.start.state.tasks }
+        requires runs { own_by pass.old id.0 ≡ running }
+        requires body { NoBody pass.old.outs id.0 }
+        ensures { Calls pass.old (calls.DropRun id) (replies.Task result) pass.new }
+    {
+        let word = self
+            .table
+            .shared
+            .fetch_and::<Drops>(&mut pass.seat, id.0 as usize + 1, DROP_MASK);
+        seen_of(word)
+    }
+
+    /// Removes a task for good that the caller has in its hands, has drawn, or runs.
+    pub fn retire(&self, pass: &mut Pass, id: TaskId) -> Seen
+        requires board { IsPassOf self.now pass.old }
+        requires exists { id.0 < length self.now.start.state.tasks }
+        requires has { own_by pass.old id.0 ≢ away }
+        requires body { NoBody pass.old.outs id.0 }
+        ensures { Calls pass.old (calls.Retire id) (replies.Task result) pass.new }
+    {
+        let word = self
+            .table
+            .shared
+            .swap::<Retires>(&mut pass.seat, id.0 as usize + 1, GONE);
         seen_of(word)
     }
 }

@@ -57,9 +57,58 @@ impl Play<Body, View> for Wakes {
 pub struct Kills;
 
 impl Play<Body, View> for Kills {
-    ghost use Rattle.wake_board.specs.Seen.{TellsKill};
+    ghost use Rattle.task_machine.specs.declared.calls.Call.TheVariants as calls;
+    ghost use Rattle.wake_board.specs.Seen.{TellsCall};
 
-    ghost then = { TellsKill };
+    ghost then = { TellsCall calls.Kill };
+}
+
+/// A take.
+pub struct Takes;
+
+impl Play<Body, View> for Takes {
+    ghost use Rattle.task_machine.specs.declared.calls.Call.TheVariants as calls;
+    ghost use Rattle.wake_board.specs.Seen.{TellsCall};
+
+    ghost then = { TellsCall calls.Take };
+}
+
+/// The end of a run.
+pub struct Drops;
+
+impl Play<Body, View> for Drops {
+    ghost use Rattle.task_machine.specs.declared.calls.Call.TheVariants as calls;
+    ghost use Rattle.wake_board.specs.Seen.{TellsCall};
+
+    ghost then = { TellsCall calls.DropRun };
+}
+
+/// A retirement.
+pub struct Retires;
+
+impl Play<Body, View> for Retires {
+    ghost use Rattle.task_machine.specs.declared.calls.Call.TheVariants as calls;
+    ghost use Rattle.wake_board.specs.Seen.{TellsCall};
+
+    ghost then = { TellsCall calls.Retire };
+}
+
+/// A post.
+pub struct Posts;
+
+impl Play<Body, View> for Posts {
+    ghost use Rattle.wake_board.specs.Seen.{TellsPost};
+
+    ghost then = { TellsPost };
+}
+
+/// A get.
+pub struct Gets;
+
+impl Play<Body, View> for Gets {
+    ghost use Rattle.wake_board.specs.Seen.{TellsGet};
+
+    ghost then = { TellsGet };
 }
 
 /// The first caller's pass leaves the seat that has those of all that follow.

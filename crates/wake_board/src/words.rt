@@ -82,6 +82,16 @@ impl Words {
         self.bodies.clone()
     }
 
+    /// Where the word of a group in a box stands.
+    pub(crate) fn box_place(&self, boxno: u32, group: u32) -> usize
+        requires exists { 64 * group < self.now.tasks }
+        requires box_exists { boxno ≤ self.now.workers }
+        ensures place { result ≡ box_at self.now.tasks boxno group }
+        ensures within { result < width self.now.workers self.now.tasks }
+    {
+        box_index(self.workers, self.tasks, boxno, group as usize)
+    }
+
     /// How often each task was taken.
     pub(crate) fn taken(&self, alloc: Global) -> Result<Vec<u64>, AllocError>
         ensures count { IfOk result (λ v. length v.items ≡ self.now.tasks) }

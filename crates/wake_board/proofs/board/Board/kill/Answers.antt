@@ -12,7 +12,7 @@ fetch_or-word-requires c =
     let key = c.self.inside.table.shared.key in
     let seat = c.pass.inside.seat in
     let within : c.args.id.0 < length (start_of key).state.tasks = rw (← c.self.view_is) at c.requires.exists in
-    let same : seat.table_id ≡ c.self.inside.table.shared.table_id = rw (← c.self.view_is, ← c.pass.view_is) at c.requires.board in
+    let same : seat.table_id ≡ c.self.inside.table.shared.table_id = rw (← c.self.view_is, ← c.pass.view_is) at c.requires.board.board in
     let sized = c.self.invariant in (
       same,
       omega arith,

@@ -4,6 +4,8 @@ use Rattle.task_machine.specs.declared.calls.Reply.TheVariants as replies
 use Rattle.task_word.specs.Word.{seen_in}
 use Rattle.wake_board.specs.Start.{start_of}
 use Rattle.wake_board.proofs.Wakes.{wakes}
+use Rattle.wake_board.proofs.Looks.{look-kept, housed-free}
+use Rattle.wake_board.proofs.Runs.{takes_on, drops_on, retires_on}
 use Rattle.wake_board.proofs.Grown.{IsPass-told, Calls-told}
 use Rattle.wake_board.proofs.board.Board.wake.Goals as goal
 
@@ -12,7 +14,7 @@ fetch_or-word-requires c =
     let key = c.self.inside.table.shared.key in
     let seat = c.pass.inside.seat in
     let within : c.args.id.0 < length (start_of key).state.tasks = rw (← c.self.view_is) at c.requires.exists in
-    let same : seat.table_id ≡ c.self.inside.table.shared.table_id = rw (← c.self.view_is, ← c.pass.view_is) at c.requires.board in
+    let same : seat.table_id ≡ c.self.inside.table.shared.table_id = rw (← c.self.view_is, ← c.pass.view_is) at c.requires.board.board in
     let sized = c.self.invariant in (
       same,
       omega arith,

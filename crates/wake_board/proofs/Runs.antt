@@ -1,0 +1,263 @@
+-- The steps of a take, of the end of a run and of a retirement.
+use Rattle.std.proofs.Common.{◌≡◌, ◌≢◌, ◌⊎◌, ℕ, suc, ◌+◌, ◌-◌, ◌^◌, ◌<◌, Bool, true, false, ◌==◌, ◌||◌, if◌then◌else◌, List, [], ◌∷◌, length, get_or, set, bit_and, refl, sym, ap, subst, ◌∙◌, inl, inr, arith, eq-eqb, eqb-true}
+use mathlib.Core.Option.{some, none}
+use lib.ListN.{get_elem?}
+use Rattle.atomic_table.specs.Table as table
+use Rattle.sched_base.specs.declared.names.CallerId.{CallerId}
+use Rattle.sched_base.specs.declared.names.TaskId.{TaskId}
+use Rattle.task_machine.specs.declared.task.Place.{Place}
+use Rattle.task_machine.specs.declared.task.Place.TheVariants as places
+use Rattle.task_machine.specs.declared.task.TaskState.{TaskState}
+use Rattle.task_machine.specs.declared.calls.Call.{Call}
+use Rattle.task_machine.specs.declared.calls.Call.TheVariants as calls
+use Rattle.task_machine.specs.declared.calls.Reply.{Reply}
+use Rattle.task_machine.specs.declared.calls.Reply.TheVariants as replies
+use Rattle.task_machine.specs.declared.calls.Entry.{Entry}
+use Rattle.task_machine.specs.Task.{gone, is_busy, is_boxed, in_hands, in_draw, in_run, seen_of, taken, dropped}
+use Rattle.task_machine.specs.Step.{State, task_at, needs, Allowed}
+use Rattle.task_machine.specs.History.{stepped}
+use Rattle.task_machine.specs.Own.{Own, away, holding, drawing, running, own_at}
+use Rattle.task_word.specs.Word.{seen_in, StandsFor, drop_mask, taken_word}
+use Rattle.task_word.proofs.Words.{dropped_follows}
+use Rattle.wake_board.specs.declared.body.Body.{Body}
+use Rattle.wake_board.specs.declared.views.Opening.{Opening}
+use Rattle.wake_board.specs.declared.views.View.{View}
+use Rattle.wake_board.specs.Start.{Start, start_of, start_in, home_of, IsShared}
+use Rattle.wake_board.specs.Rule.{now_of, IsHomed, Leads, Housed, IsKept}
+use Rattle.wake_board.specs.Seen.{entry_by, own_log, logged, own_view, Told, TellsCall}
+use Rattle.wake_board.specs.Own.{takes_in, known_takes, NoBody}
+use Rattle.wake_board.proofs.Tasks.{OneTask}
+use Rattle.wake_board.proofs.Moves.{own_first, attests-call}
+use Rattle.wake_board.proofs.Looks.{LookStep, look-kept, own-now, housed-free, free_hands, free_led, free_own}
+use Rattle.wake_board.proofs.Known.{takes-led, takes_in-home}
+
+-- a caller by its number
+abbrev caller : ℕ → CallerId
+caller k = record { 0 = k }
+
+same_caller : (k : ℕ) (j : CallerId) → (j.0 == k) ≡ true → j ≡ caller k
+same_caller k j e = ap caller (eqb-true j.0 k e)
+
+-- the place of a task that a caller has
+pub record HasAt (k : ℕ) (p : Place) : Type 0 where
+  pub place : (p ≡ places.Hands (caller k)) ⊎ ((p ≡ places.Drawn (caller k)) ⊎ (p ≡ places.Runs (caller k)))
+
+hands_at : (k : ℕ) (j : CallerId) (b : Bool) → (j.0 == k) ≡ b → (if b then holding else away) ≢ away → HasAt k (places.Hands j)
+hands_at k j true e h = record { place = inl (ap places.Hands (same_caller k j e)) }
+hands_at k j false e h = absurd (h refl)
+
+drawn_at : (k : ℕ) (j : CallerId) (b : Bool) → (j.0 == k) ≡ b → (if b then drawing else away) ≢ away → HasAt k (places.Drawn j)
+drawn_at k j true e h = record { place = inr (inl (ap places.Drawn (same_caller k j e))) }
+drawn_at k j false e h = absurd (h refl)
+
+runs_at : (k : ℕ) (j : CallerId) (b : Bool) → (j.0 == k) ≡ b → (if b then running else away) ≢ away → HasAt k (places.Runs j)
+runs_at k j true e h = record { place = inr (inr (ap places.Runs (same_caller k j e))) }
+runs_at k j false e h = absurd (h refl)
+
+pub has_at : (k : ℕ) (p : Place) → own_at k p ≢ away → HasAt k p
+has_at k places.Rest h = absurd (h refl)
+has_at k (places.Hands j) h = hands_at k j (j.0 == k) refl h
+has_at k (places.Boxed b) h = absurd (h refl)
+has_at k (places.Drawn j) h = drawn_at k j (j.0 == k) refl h
+has_at k (places.Runs j) h = runs_at k j (j.0 == k) refl h
+has_at k places.Gone h = absurd (h refl)
+
+own_hands : (k : ℕ) → own_at k (places.Hands (caller k)) ≡ holding
+own_hands k = ap (λ (b : Bool). if b then holding else away) (eq-eqb k k refl)
+
+own_drawn : (k : ℕ) → own_at k (places.Drawn (caller k)) ≡ drawing
+own_drawn k = ap (λ (b : Bool). if b then drawing else away) (eq-eqb k k refl)
+
+own_runs : (k : ℕ) → own_at k (places.Runs (caller k)) ≡ running
+own_runs k = ap (λ (b : Bool). if b then running else away) (eq-eqb k k refl)
+
+pub hands_by : (k : ℕ) (p : Place) → own_at k p ≡ holding → p ≡ places.Hands (caller k)
+hands_by k p h =
+    let some' : own_at k p ≢ away = λ e. cc in
+    elim (has_at k p some').place [
+      | inl a ↦ a
+      | inr other ↦ elim other [
+        | inl b ↦ (let x : own_at k p ≡ drawing = ap (own_at k) b ∙ own_drawn k in cc)
+        | inr d ↦ (let x : own_at k p ≡ running = ap (own_at k) d ∙ own_runs k in cc)
+      ]
+    ]
+
+pub drawn_by : (k : ℕ) (p : Place) → own_at k p ≡ drawing → p ≡ places.Drawn (caller k)
+drawn_by k p h =
+    let some' : own_at k p ≢ away = λ e. cc in
+    elim (has_at k p some').place [
+      | inl a ↦ (let x : own_at k p ≡ holding = ap (own_at k) a ∙ own_hands k in cc)
+      | inr other ↦ elim other [
+        | inl b ↦ b
+        | inr d ↦ (let x : own_at k p ≡ running = ap (own_at k) d ∙ own_runs k in cc)
+      ]
+    ]
+
+pub runs_by : (k : ℕ) (p : Place) → own_at k p ≡ running → p ≡ places.Runs (caller k)
+runs_by k p h =
+    let some' : own_at k p ≢ away = λ e. cc in
+    elim (has_at k p some').place [
+      | inl a ↦ (let x : own_at k p ≡ holding = ap (own_at k) a ∙ own_hands k in cc)
+      | inr other ↦ elim other [
+        | inl b ↦ (let x : own_at k p ≡ drawing = ap (own_at k) b ∙ own_drawn k in cc)
+        | inr d ↦ d
+      ]
+    ]
+
+-- what a call told, for the task that its word names
+tells : (call : TaskId → Call) (slots id : ℕ) (me new : table.Me Body View) (i x n : ℕ) → Told me (call (record { 0 = i })) (replies.Task (seen_in n)) new → TellsCall call (table.step slots (suc i) x 0 none) me n new
+tells call slots id me new i x n t j word =
+    let same : i ≡ j = omega arith in
+    subst (λ (y : ℕ). Told me (call (record { 0 = y })) (replies.Task (seen_in n)) new) same t
+
+taken_follows : (k : CallerId) (t : TaskState) (takes : ℕ) → t.takes ≡ takes → takes < 2 ^ 48 - 1 → StandsFor (taken_word takes) (seen_of (taken k t))
+taken_follows k t takes e small = (ap taken_word (sym e), (omega arith, omega arith))
+
+no_get_take : (i g : ℕ) → calls.Take (record { 0 = i }) ≢ calls.Get g
+no_get_take i g e = cc
+
+no_get_drop : (i g : ℕ) → calls.DropRun (record { 0 = i }) ≢ calls.Get g
+no_get_drop i g e = cc
+
+no_get_retire : (i g : ℕ) → calls.Retire (record { 0 = i }) ≢ calls.Get g
+no_get_retire i g e = cc
+
+-- the takes of a task of the caller's own, which is in the caller's hands
+known-now : (o : Opening) (s : table.State Body View) (r : IsKept o s) (id : ℕ) (v : View) (i : ℕ) → get_elem? s.views id ≡ some v → v.logs ≡ own_log v.logs ∷ [] → (task_at (now_of (start_of o) r.history) i).place ≢ places.Gone → home_of (start_of o) i ≡ v.first → ¬ IsShared (start_of o) i → (task_at (now_of (start_of o) r.history) i).takes ≡ known_takes (start_of o) (own_log v.logs) i
+known-now o s r id v i at one lives home own =
+    let mine = own_first o s r id v at one in
+    takes-led (start_of o).state r.history i r.legal lives ∙ ap (λ (n : ℕ). (task_at (start_of o).state i).takes + n) (takes_in-home (start_of o) (caller v.first) r.history i r.takes home own ∙ ap (takes_in i) mine.2)
+
+pub takes_at : (o : Opening) (slots id : ℕ) (me : table.Me Body View) (i takes : ℕ) → me.0.logs ≡ own_log me.0.logs ∷ [] → i < length (start_of o).state.tasks → own_view me.0 i ≡ holding → home_of (start_of o) i ≡ me.0.first → me.0.first < (start_of o).state.workers → takes ≡ known_takes (start_of o) (own_log me.0.logs) i → takes < 2 ^ 48 - 1 → table.Allows (IsKept o) slots id me (suc i) (λ n. taken_word takes) (TellsCall calls.Take (table.step slots (suc i) (taken_word takes) 0 none) me)
+takes_at o slots id me i takes one within held home worker known small s r sized at wide =
+    let v : View = me.0 in
+    let k : CallerId = caller v.first in
+    let c : Call = calls.Take (record { 0 = i }) in
+    let m : State = now_of (start_of o) r.history in
+    let t : TaskState = task_at m i in
+    let n : ℕ = get_or s.words (suc i) 0 in
+    let e : Entry = entry_by v.first c (replies.Task (seen_in n)) in
+    let own : ¬ IsShared (start_of o) i = λ h. omega arith in
+    let place : t.place ≡ places.Hands k = hands_by v.first t.place (own-now o s r id v i at one ∙ held) in
+    let now : t.takes ≡ takes = known-now o s r id v i at one (λ gone'. (let z = sym place ∙ gone' in cc)) home own ∙ sym known in
+    let step : LookStep (start_of o) m k c t (taken k t) (taken_word takes) = record {
+      no_get = no_get_take i;
+      named = refl;
+      fit = subst (λ (p : Place). (in_hands k p || in_draw k p) ≡ true) (sym place) (ap (λ (b : Bool). b || false) (eq-eqb v.first v.first refl));
+      room = omega arith;
+      reply = refl;
+      change = refl;
+      stands = taken_follows k t takes now small;
+      boxed = λ b. subst (λ (p : Place). false ≡ is_boxed b p) (sym place) refl;
+      homed = tt;
+      home = inl home;
+    } in
+    let made = look-kept o s r id v c (taken k t) (taken_word takes) at one within step (λ shared. absurd (own shared)) (λ one_task. housed-free (start_of o) r.owner m (stepped m e) s.homes s.views id v (logged v e) i (taken k t) r.housed one_task (free_own (start_of o) r.owner m s.homes s.views i own) (λ shared lives. absurd (own shared)) at refl) in
+    (logged v e, table.keeps, tt, made.1, tells calls.Take slots id me (logged v e, me.1) i (taken_word takes) n (record { seat = refl; attested = attests-call o s r id v c (replies.Task (seen_in n)) at one made.0 }))
+
+dropped_boxed : (k : CallerId) (busy : Bool) (b : ℕ) → is_boxed b (if busy then places.Hands k else places.Rest) ≡ false
+dropped_boxed k true b = refl
+dropped_boxed k false b = refl
+
+dropped_homed : (o : Start) (i : ℕ) (k : CallerId) (busy : Bool) → IsHomed o i (if busy then places.Hands k else places.Rest)
+dropped_homed o i k true = tt
+dropped_homed o i k false = tt
+
+pub drops_at : (o : Opening) (slots id : ℕ) (me : table.Me Body View) (i : ℕ) → me.0.logs ≡ own_log me.0.logs ∷ [] → i < length (start_of o).state.tasks → own_view me.0 i ≡ running → NoBody me.0.outs i → table.Allows (IsKept o) slots id me (suc i) (λ n. bit_and n drop_mask) (TellsCall calls.DropRun (table.step slots (suc i) drop_mask 0 none) me)
+drops_at o slots id me i one within runs none_out s r sized at wide =
+    let v : View = me.0 in
+    let k : CallerId = caller v.first in
+    let c : Call = calls.DropRun (record { 0 = i }) in
+    let m : State = now_of (start_of o) r.history in
+    let t : TaskState = task_at m i in
+    let n : ℕ = get_or s.words (suc i) 0 in
+    let e : Entry = entry_by v.first c (replies.Task (seen_in n)) in
+    let place : t.place ≡ places.Runs k = runs_by v.first t.place (own-now o s r id v i at one ∙ runs) in
+    let mine = own_first o s r id v at one in
+    let step : LookStep (start_of o) m k c t (dropped k t) (bit_and n drop_mask) = record {
+      no_get = no_get_drop i;
+      named = refl;
+      fit = subst (λ (p : Place). in_run k p ≡ true) (sym place) (eq-eqb v.first v.first refl);
+      room = tt;
+      reply = refl;
+      change = refl;
+      stands = dropped_follows k t n place (r.words.tasks i within);
+      boxed = λ b. dropped_boxed k (is_busy t) b ∙ subst (λ (p : Place). false ≡ is_boxed b p) (sym place) refl;
+      homed = dropped_homed (start_of o) i k (is_busy t);
+      home = tt;
+    } in
+    let made = look-kept o s r id v c (dropped k t) (bit_and n drop_mask) at one within step tt (λ one_task. housed-free (start_of o) r.owner m (stepped m e) s.homes s.views id v (logged v e) i (dropped k t) r.housed one_task (free_led (start_of o) r.owner m s.homes s.views i id v at (λ p l. sym (subst (Leads r.owner p) place l) ∙ mine.0) none_out) (λ shared lives. ((λ gone'. (let z = sym place ∙ gone' in cc)), refl)) at refl) in
+    (logged v e, table.keeps, tt, made.1, tells calls.DropRun slots id me (logged v e, me.1) i drop_mask n (record { seat = refl; attested = attests-call o s r id v c (replies.Task (seen_in n)) at one made.0 }))
+
+retire_fit : (k : ℕ) (p : Place) → HasAt k p → (in_hands (caller k) p || (in_draw (caller k) p || in_run (caller k) p)) ≡ true
+retire_fit k p h =
+    let same : (k == k) ≡ true = eq-eqb k k refl in
+    elim h.place [
+      | inl a ↦ subst (λ (q : Place). (in_hands (caller k) q || (in_draw (caller k) q || in_run (caller k) q)) ≡ true) (sym a) (ap (λ (b : Bool). b || (false || false)) same)
+      | inr other ↦ elim other [
+        | inl b ↦ subst (λ (q : Place). (in_hands (caller k) q || (in_draw (caller k) q || in_run (caller k) q)) ≡ true) (sym b) (ap (λ (x : Bool). false || (x || false)) same)
+        | inr d ↦ subst (λ (q : Place). (in_hands (caller k) q || (in_draw (caller k) q || in_run (caller k) q)) ≡ true) (sym d) same
+      ]
+    ]
+
+has_boxed : (k b : ℕ) (p : Place) → HasAt k p → is_boxed b p ≡ false
+has_boxed k b p h =
+    elim h.place [
+      | inl a ↦ subst (λ (q : Place). is_boxed b q ≡ false) (sym a) refl
+      | inr other ↦ elim other [
+        | inl x ↦ subst (λ (q : Place). is_boxed b q ≡ false) (sym x) refl
+        | inr y ↦ subst (λ (q : Place). is_boxed b q ≡ false) (sym y) refl
+      ]
+    ]
+
+has_lead : (owner : ℕ → ℕ) (k p : ℕ) (place : Place) → HasAt k place → Leads owner p place → owner k ≡ p
+has_lead owner k p place h l =
+    elim h.place [
+      | inl a ↦ absurd (subst (Leads owner p) a l)
+      | inr other ↦ elim other [ inl x ↦ subst (Leads owner p) x l | inr y ↦ subst (Leads owner p) y l ]
+    ]
+
+pub retires_at : (o : Opening) (slots id : ℕ) (me : table.Me Body View) (i : ℕ) → me.0.logs ≡ own_log me.0.logs ∷ [] → i < length (start_of o).state.tasks → own_view me.0 i ≢ away → NoBody me.0.outs i → table.Allows (IsKept o) slots id me (suc i) (λ n. 8) (TellsCall calls.Retire (table.step slots (suc i) 8 0 none) me)
+retires_at o slots id me i one within has none_out s r sized at wide =
+    let v : View = me.0 in
+    let k : CallerId = caller v.first in
+    let c : Call = calls.Retire (record { 0 = i }) in
+    let m : State = now_of (start_of o) r.history in
+    let t : TaskState = task_at m i in
+    let n : ℕ = get_or s.words (suc i) 0 in
+    let e : Entry = entry_by v.first c (replies.Task (seen_in n)) in
+    let place : HasAt v.first t.place = has_at v.first t.place (λ z. has (sym (own-now o s r id v i at one) ∙ z)) in
+    let mine = own_first o s r id v at one in
+    let step : LookStep (start_of o) m k c t gone 8 = record {
+      no_get = no_get_retire i;
+      named = refl;
+      fit = retire_fit v.first t.place place;
+      room = tt;
+      reply = refl;
+      change = refl;
+      stands = refl;
+      boxed = λ b. sym (has_boxed v.first b t.place place);
+      homed = tt;
+      home = tt;
+    } in
+    let made = look-kept o s r id v c gone 8 at one within step tt (λ one_task. housed-free (start_of o) r.owner m (stepped m e) s.homes s.views id v (logged v e) i gone r.housed one_task (free_led (start_of o) r.owner m s.homes s.views i id v at (λ p l. sym (has_lead r.owner v.first p t.place place l) ∙ mine.0) none_out) (λ shared lives. absurd (lives refl)) at refl) in
+    (logged v e, table.keeps, tt, made.1, tells calls.Retire slots id me (logged v e, me.1) i 8 n (record { seat = refl; attested = attests-call o s r id v c (replies.Task (seen_in n)) at one made.0 }))
+
+-- the same at a word and an operand that are these
+pub takes_on : (o : Opening) (slots id : ℕ) (me : table.Me Body View) (i x takes word : ℕ) → me.0.logs ≡ own_log me.0.logs ∷ [] → i < length (start_of o).state.tasks → own_view me.0 i ≡ holding → home_of (start_of o) i ≡ me.0.first → me.0.first < (start_of o).state.workers → takes ≡ known_takes (start_of o) (own_log me.0.logs) i → takes < 2 ^ 48 - 1 → x ≡ i + 1 → word ≡ taken_word takes → table.Allows (IsKept o) slots id me x (λ n. word) (TellsCall calls.Take (table.step slots x word 0 none) me)
+takes_on o slots id me i x takes word one within held home worker known small place is =
+    let at : x ≡ suc i = omega arith in
+    let P : ℕ → ℕ → Type 0 = λ y b. table.Allows (IsKept o) slots id me y (λ n. b) (TellsCall calls.Take (table.step slots y b 0 none) me) in
+    subst (λ (y : ℕ). P y word) (sym at) (subst (P (suc i)) (sym is) (takes_at o slots id me i takes one within held home worker known small))
+
+pub drops_on : (o : Opening) (slots id : ℕ) (me : table.Me Body View) (i x mask : ℕ) → me.0.logs ≡ own_log me.0.logs ∷ [] → i < length (start_of o).state.tasks → own_view me.0 i ≡ running → NoBody me.0.outs i → x ≡ i + 1 → mask ≡ drop_mask → table.Allows (IsKept o) slots id me x (λ n. bit_and n mask) (TellsCall calls.DropRun (table.step slots x mask 0 none) me)
+drops_on o slots id me i x mask one within runs none_out place is =
+    let at : x ≡ suc i = omega arith in
+    let P : ℕ → ℕ → Type 0 = λ y b. table.Allows (IsKept o) slots id me y (λ n. bit_and n b) (TellsCall calls.DropRun (table.step slots y b 0 none) me) in
+    subst (λ (y : ℕ). P y mask) (sym at) (subst (P (suc i)) (sym is) (drops_at o slots id me i one within runs none_out))
+
+pub retires_on : (o : Opening) (slots id : ℕ) (me : table.Me Body View) (i x word : ℕ) → me.0.logs ≡ own_log me.0.logs ∷ [] → i < length (start_of o).state.tasks → own_view me.0 i ≢ away → NoBody me.0.outs i → x ≡ i + 1 → word ≡ 8 → table.Allows (IsKept o) slots id me x (λ n. word) (TellsCall calls.Retire (table.step slots x word 0 none) me)
+retires_on o slots id me i x word one within has none_out place is =
+    let at : x ≡ suc i = omega arith in
+    let P : ℕ → ℕ → Type 0 = λ y b. table.Allows (IsKept o) slots id me y (λ n. b) (TellsCall calls.Retire (table.step slots y b 0 none) me) in
+    subst (λ (y : ℕ). P y word) (sym at) (subst (P (suc i)) (sym is) (retires_at o slots id me i one within has none_out))
