@@ -7,7 +7,7 @@ use Rattle.std.proofs.Math.Numerals.{one-add}
 use Rattle.std.proofs.lemmas.List.{set-get_or, length-map}
 use Rattle.std.proofs.lemmas.Map.Steps.{length-le_from_distinct_below}
 use Rattle.sched_base.specs.declared.plain_lists.Row.{Row}
-use Rattle.sched_base.specs.KeyedList.{KeyedItem, KeyedList, AreKeyed, IsKeyed, IsOnce, IsRising, inserted, is_entry, first_entry, next_entry, entry_from, key_of_entry, blank, KeyedRoots, root_at, StandsIn, IsPlaced, IsFree, with_root, with_entry, without_entry, inserted_into, deleted_from}
+use Rattle.sched_base.specs.KeyedList.{KeyedItem, KeyedList, AreKeyed, IsOnce, IsRising, inserted, is_entry, first_entry, next_entry, entry_from, key_of_entry, blank, KeyedRoots, root_at, StandsIn, IsPlaced, IsFree, with_root, with_entry, without_entry, inserted_into, deleted_from}
 use Rattle.sched_base.specs.PlainRows.{items_of, lists_from, has_row, AreApart, AreSound, IsWithin}
 use Rattle.sched_base.proofs.Inserted.{rising-inserted, rising-filter}
 
