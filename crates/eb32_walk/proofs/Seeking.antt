@@ -1,6 +1,6 @@
 -- The descent by key: what lies before and after the part that it has come to.
 use Rattle.std.proofs.Common.{◌≡◌, ◌≢◌, ℕ, ◌+◌, ◌*◌, ◌/◌, ◌%◌, ◌^◌, ◌<◌, ◌≤◌, List, [], ◌∷◌, ◌++◌, length, Bool, true, false, refl, sym, ap, ◌∙◌, subst, arith, append_assoc, eqb-true, eq-eqb}
-use Rattle.std.specs.Prelude.{pos, negsuc, Option, Some, None, MatchOption, ◌==◌, if◌then◌else◌}
+use Rattle.std.specs.Prelude.{pos, negsuc, Option, Some, None, IfSome, MatchOption, ◌==◌, if◌then◌else◌}
 use Rattle.std.specs.Option.{unwrap_or}
 use Rattle.std.proofs.lemmas.List.{append-nil}
 use Rattle.std.proofs.lemmas.Bool.{eqb-false}
@@ -265,6 +265,10 @@ reached_found a q key old new (targets.Node i) r =
 pub found_or_bare : (a : Parts) (q key old new : ℕ) (o : Option Target) → MatchOption o (IsBare a q old new) (Reaches a q key old new) → MatchOption o (list_of a q ≡ []) (IsFound a q key)
 found_or_bare a q key old new None h = ap (list_below a) h.empty
 found_or_bare a q key old new (Some part) h = reached_found a q key old new part h
+
+pub reached_or_bare : (a : Parts) (q key old new : ℕ) → old ≡ 0 → (o : Option Target) → MatchOption o (IsBare a q old new) (Reaches a q key old new) → IfSome o (λ part. (taken : ℕ) × Reaches a q key 0 taken part)
+reached_or_bare a q key old new z None h = tt
+reached_or_bare a q key old new z (Some part) h = (new, subst (λ m. Reaches a q key m new part) z h)
 
 -- a part that was come to is not nothing
 pub narrow_some : (a : Parts) (q key : ℕ) (part : Target) → Narrow a q key part → part ≡ targets.Nothing → ⊥

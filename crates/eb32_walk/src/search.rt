@@ -1,6 +1,6 @@
 //! Look-ups by key.
 
-ghost use Rattle.std.specs.Prelude.{◌≡◌, ◌<◌, ◌==◌, nat_le, [], filter, length, IfSome, MatchOption};
+ghost use Rattle.std.specs.Prelude.{◌≡◌, ℕ, ◌<◌, ◌==◌, nat_le, [], filter, length, IfSome, MatchOption};
 ghost use Rattle.eb_arena.specs.Shape.{HasShape, IsBit, list_of};
 ghost use Rattle.sched_base.specs.KeyedList.{first_entry};
 ghost use Rattle.eb32_walk.specs.Ends.{IsIn, IsTree, last_entry};
@@ -64,18 +64,20 @@ fn descend_uncounted<L: Ledger>(arena: &Arena, root: u32, key: u32, blank: Blank
     requires some { 0 < L.parts }
     requires shape { HasShape arena.now }
     requires exists { root < length arena.now.links }
-    ensures { MatchOption result (list_of arena.now root ≡ []) (IsFound arena.now root key) }
+    ensures found { MatchOption result (list_of arena.now root ≡ []) (IsFound arena.now root key) }
+    ensures reached { IfSome result (λ part. (taken : ℕ) × Reaches arena.now root key 0 taken part) }
 {
     let mut steps = Steps::<L>::new(blank);
     descend(arena, root, key, &mut steps)
 }
 
 /// The part at which the descent by a key ends. All items before it have smaller keys, and all items
-/// after it have greater ones; none where the root's list is empty.
-fn seek(arena: &Arena, root: u32, key: u32) -> Option<Link>
+/// after it have greater ones; none where the root's list is empty. Nothing is counted.
+pub fn seek(arena: &Arena, root: u32, key: u32) -> Option<Link>
     requires shape { HasShape arena.now }
     requires exists { root < length arena.now.links }
-    ensures { MatchOption result (list_of arena.now root ≡ []) (IsFound arena.now root key) }
+    ensures found { MatchOption result (list_of arena.now root ≡ []) (IsFound arena.now root key) }
+    ensures reached { IfSome result (λ part. (taken : ℕ) × Reaches arena.now root key 0 taken part) }
 {
     descend_uncounted::<Brand>(arena, root, key, Blank::new(1))
 }
