@@ -1,6 +1,6 @@
 //! The forest: ordered lists of entries in one arena.
 
-ghost use Rattle.std.specs.Prelude.{◌≡◌, ℕ, ◌+◌, ◌^◌, ◌<◌, ◌≤◌, length, slice_index, replicate, IfOk, IfSome};
+ghost use Rattle.std.specs.Prelude.{◌≡◌, ℕ, ◌+◌, ◌^◌, ◌<◌, ◌≤◌, length, slice_index, replicate, IfNone, IfOk, IfSome};
 ghost use Rattle.sched_base.specs.KeyedList.{blank, root_at, inserted_into, deleted_from, StandsIn, IsPlaced, IsFree, key_of_entry};
 ghost use Rattle.eb_arena.specs.Parts.{unused};
 ghost use Rattle.eb_arena.specs.Shape.{HasShape, list_of};
@@ -57,6 +57,7 @@ impl Forest {
         ensures shape { HasShape result.now }
         ensures counts { length self.now.made ≡ length self.now.parts.links }
         ensures roots { length (seen_of self.now).roots ≡ length result.now.links }
+        ensures entries { (seen_of self.now).entries ≡ length result.now.elements }
         ensures lists { (root : ℕ) → root < length result.now.links → (root_at root (seen_of self.now)).items ≡ list_of result.now root }
         ensures placed { (entry : ℕ) → IsPlaced entry (seen_of self.now) → IsIn result.now entry }
     {
@@ -73,7 +74,8 @@ impl Forest {
     /// How many insertions were made into a root so far.
     pub fn insertions(&self, root: u32) -> u64
         requires { root < length self.now.parts.links }
-        ensures { result ≡ slice_index self.now.made root }
+        ensures made { result ≡ slice_index self.now.made root }
+        ensures seen { result ≡ (root_at root (seen_of self.now)).insertions }
     {
         self.made[root as usize]
     }
@@ -114,6 +116,7 @@ impl Forest {
     pub fn is_in(&self, entry: u32) -> Option<u32>
         ensures found { IfSome result (λ root. StandsIn root entry (seen_of self.now)) }
         ensures one { (root : ℕ) → StandsIn root entry (seen_of self.now) → result ≡ Some root }
+        ensures free { IfNone result (IsFree entry (seen_of self.now)) }
     {
         if entry >= self.arena.entries() || self.arena.element(entry).leaf_p.is_none() {
             return None;

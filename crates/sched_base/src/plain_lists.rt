@@ -1,9 +1,9 @@
 //! Keyed lists as plain as can be, as a yardstick for others.
 
-ghost use Rattle.std.specs.Prelude.{◌≡◌, ◌==◌, ◌&&◌, nat_le, nat_lt, replicate, find, IfOk};
+ghost use Rattle.std.specs.Prelude.{◌≡◌, ◌<◌, ◌==◌, ◌&&◌, length, nat_le, nat_lt, replicate, find, IfOk};
 ghost use Rattle.std.specs.Option.{option_map};
 ghost use Rattle.std.specs.List.{position};
-ghost use Rattle.sched_base.specs.KeyedList.{KeyedRoots, blank};
+ghost use Rattle.sched_base.specs.KeyedList.{KeyedRoots, blank, root_at};
 
 use crate::keyed_lists::KeyedLists;
 use std::alloc::{AllocError, Global};
@@ -52,6 +52,14 @@ impl PlainLists {
             insertions,
             entries,
         })
+    }
+
+    /// How many insertions were made into a root so far.
+    pub fn insertions(&self, root: u32) -> u64
+        requires { root < length self.now.roots }
+        ensures { result ≡ (root_at root self.now).insertions }
+    {
+        self.insertions[root as usize]
     }
 }
 

@@ -66,5 +66,6 @@ fn items_stand_by_key_and_then_by_arrival(rt: HostRuntime) -> Result<(), Fail> {
     assert_eq!(rt; lists.first(1), Some(3));
     assert_eq!(rt; lists.root_of(3), Some(1));
     assert_eq!(rt; lists.root_of(5), None);
+    assert_eq!(rt; (lists.insertions(0), lists.insertions(1)), (4, 1));
     Ok(())
 }
