@@ -1,7 +1,6 @@
 //! Times Rust's `BTreeMap`, keyed by key and arrival, on the work that the forest does: see `run`.
 
 use std::collections::BTreeMap;
-use std::hint::black_box;
 use std::time::Instant;
 
 /// A linear congruential generator of 64 bits, of which the upper half is drawn.
@@ -48,27 +47,29 @@ fn timed(calls: u32, work: impl FnOnce()) -> f64 {
     start.elapsed().as_nanos() as f64 / f64::from(calls)
 }
 
-/// One round of all kinds of call.
-fn round(lists: &mut Lists, calls: u32, mask: u32) -> [f64; 5] {
+/// One round of all kinds of call, and the sum of the keys that were found.
+fn round(lists: &mut Lists, calls: u32, mask: u32) -> ([f64; 5], u32) {
     let mut draws = Draws(42);
+    let mut sum = 0u32;
     let insert = timed(calls, || {
         for entry in 0..calls {
             lists.insert(entry, draws.draw() & mask);
         }
     });
     let walk = timed(calls, || {
-        let sum = lists.map.keys().fold(0u32, |sum, key| sum.wrapping_add(key.0));
-        black_box(sum);
+        sum = lists.map.keys().fold(0u32, |sum, key| sum.wrapping_add(key.0));
     });
     let look_up = timed(calls, || {
         for _ in 0..calls {
-            black_box(lists.at_or_after(draws.draw() & mask));
+            if let Some(entry) = lists.at_or_after(draws.draw() & mask) {
+                sum = sum.wrapping_add(lists.places[entry as usize].0);
+            }
         }
     });
     let churn = timed(calls, || {
         let mut point = 0u32;
         for _ in 0..calls {
-            let entry = lists.at_or_after(point & mask).or(lists.at_or_after(0));
+            let entry = lists.at_or_after(point & mask).or_else(|| lists.at_or_after(0));
             let Some(entry) = entry else { return };
             point = lists.places[entry as usize].0;
             lists.delete(entry);
@@ -80,7 +81,7 @@ fn round(lists: &mut Lists, calls: u32, mask: u32) -> [f64; 5] {
             lists.delete(entry);
         }
     });
-    [insert, walk, look_up, churn, delete]
+    ([insert, walk, look_up, churn, delete], sum)
 }
 
 fn main() {
@@ -94,8 +95,11 @@ fn main() {
             arrivals: 0,
         };
         let mut best = [f64::MAX; 5];
+        let mut sum = 0;
         for _ in 0..5 {
-            for (best, time) in best.iter_mut().zip(round(&mut lists, calls, mask)) {
+            let (times, found) = round(&mut lists, calls, mask);
+            sum = found;
+            for (best, time) in best.iter_mut().zip(times) {
                 *best = best.min(time);
             }
         }
@@ -103,6 +107,6 @@ fn main() {
         for (call, time) in ["insert", "walk", "lookup_ge", "churn", "delete"].iter().zip(best) {
             print!(" {call} {time:.1}");
         }
-        println!();
+        println!(" sum {sum}");
     }
 }

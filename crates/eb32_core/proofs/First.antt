@@ -3,7 +3,7 @@ use Rattle.std.proofs.Common.{◌≡◌, ℕ, ◌+◌, ◌<◌, inl, inr, [], le
 use Rattle.std.specs.Prelude.{Option, Some, None, IsSomeAnd, nat_le}
 use Rattle.sched_base.specs.KeyedList.{inserted}
 use Rattle.eb_arena.specs.Links.{index_of}
-use Rattle.std.proofs.lemmas.Bool.{cases_eq}
+use Rattle.std.proofs.lemmas.Bool.{cases_eq, false≢true}
 use Rattle.std.proofs.lemmas.List.{length-set, get_or-set_same, get_or-set_other}
 use Rattle.eb_arena.specs.declared.links.Side.TheVariants as sides
 use Rattle.eb_arena.specs.declared.links.Target.TheVariants as targets
@@ -18,7 +18,7 @@ use Rattle.eb_dups.specs.Grown.{with_tree}
 use Rattle.eb_dups.proofs.Distinct.{Fresh, fresh}
 use Rattle.eb_dups.proofs.Moves.{hung_leaf, hung_node}
 use Rattle.eb_dups.proofs.Regrown.{tree_at, tree_other}
-use Rattle.eb32_core.specs.Planted.{Plants}
+use Rattle.eb32_core.specs.Planted.{Plants, GrowsIn, has_key, spine_in}
 
 -- the arena with an entry alone on a root
 abbrev pub rooted : Parts → ℕ → ℕ → Parts
@@ -93,5 +93,10 @@ first_planted a q e fq fe em fr ts sh =
             (x.0, (subst (λ m. x.0 < m) (sym cl) x.1.0, some_other ts q x.0 (Some t) (HasNode i) none x.1.1));
       };
       items_are = let y : items_of (ts q) ≡ [] = ap items_of none in ap (inserted (λ w. nat_le w.key key) (record { key = key; entry = e })) (sym y);
-      spines = λ m h. tt;
+      grows = subst (λ o. GrowsIn o e key t) (sym none) refl;
+      rises = record {
+        same_key = λ h. absurd (false≢true (ap (λ o. has_key key (items_of o)) (sym none) ∙ h));
+        new_key = λ h. ap (spine_in key) (sym none);
+        other_keys = λ k n. ap (spine_in k) (sym none);
+      };
     }

@@ -1,23 +1,31 @@
 -- A forest after an insertion.
-use Rattle.std.proofs.Common.{◌≡◌, ℕ, zero, suc, ◌+◌, ◌^◌, ◌<◌, inl, inr, List, [], ◌∷◌, length, get_or, set, replicate, refl, sym, ap, ◌∙◌, subst, arith}
+use Rattle.std.proofs.Common.{◌≡◌, ℕ, zero, suc, ◌+◌, ◌^◌, ◌<◌, ◌≤◌, ◌⊎◌, inl, inr, List, [], ◌∷◌, length, get_or, set, replicate, refl, sym, ap, ◌∙◌, subst, arith}
 use Rattle.std.specs.Prelude.{Option, Some, None, slice_index, nat_le}
 use Rattle.std.proofs.lemmas.Bool.{cases_eq}
 use Rattle.std.proofs.lemmas.List.{length-set, get_or-set_same, get_or-set_other, get_or-replicate, length-replicate}
 use Rattle.sched_base.specs.KeyedList.{KeyedItem, KeyedList, KeyedRoots, inserted, with_entry, inserted_into, root_at, blank}
 use Rattle.eb_arena.specs.declared.links.Side.TheVariants as sides
+use Rattle.eb_arena.specs.declared.links.Target.{Target}
 use Rattle.eb_arena.specs.declared.links.Target.TheVariants as targets
 use Rattle.eb_arena.specs.declared.links.Place.TheVariants as places
 use Rattle.eb_arena.specs.declared.element.Element.{Element}
 use Rattle.eb_arena.specs.Parts.{Parts, element_at, link_at, with_element, unused}
-use Rattle.eb_arena.specs.Shape.{Tree, tip, fork, items_of, Stands, IsRoot, Shape, root_place, list_of}
+use Rattle.eb_arena.specs.Shape.{Tree, tip, fork, items_of, Stands, Split, IsRoot, Shape, root_place, list_of}
 use Rattle.eb_arena.specs.Laws.{SameNode, SameOn}
 use Rattle.eb_arena.proofs.Frame.{kept, at_set, at_other}
 use Rattle.eb_arena.proofs.Reading.{list_of_is}
+use Rattle.eb_arena.proofs.Ways.{part_split}
+use Rattle.eb_arena.proofs.Unique.{determined, same_option}
+use Rattle.eb_arena.specs.Way.{Step, plug}
+use Rattle.eb32_walk.specs.Search.{own_key}
+use Rattle.eb_dups.specs.Spine.{IsWhole, spine_value, spine_length, first_key, spine_of}
 use Rattle.eb_dups.specs.Grown.{with_tree}
 use Rattle.eb_dups.proofs.Distinct.{Fresh, fresh}
 use Rattle.eb_dups.proofs.Regrown.{tree_at, tree_other}
-use Rattle.eb32_core.specs.Planted.{Spines, SpinesIn, IsRoomy, Planted, Plants}
-use Rattle.eb32_core.specs.Forest.{Grove, IsTended, lists_from, seen_of}
+use Rattle.eb32_core.specs.Planted.{SpinesIn, IsRoomy, Planted, Plants, GrowsIn, Rises, WayDown, Visits}
+use Rattle.eb32_core.specs.Forest.{Grove, IsTended, InTrees, Gains, IsBrief, AreShort, lists_from, seen_of}
+use Rattle.eb32_core.proofs.Values.{rises_bound, spine_short, own_value, value_in_whole, way_short}
+use Rattle.eb32_core.proofs.Plants.{fits_whole}
 
 -- the arena with another key at an entry
 abbrev pub keyed : Parts → ℕ → ℕ → Parts
@@ -108,9 +116,6 @@ pub roomy : (f : Grove) (root entry key : ℕ) → IsTended f → root < length 
 roomy f root entry key t r e n room =
     record { trees = t.trees; shape = key_shape f.parts t.trees entry key t.shape e n; most = slice_index f.made root; spines = t.spines root r; room = let x : slice_index f.made root + 1 < 2 ^ 63 = room in omega (arith, x) }
 
-spines_rise : (m : ℕ) (o : Option Tree) (t : Tree) → Spines (m + 1) t → o ≡ Some t → SpinesIn (m + 1) o
-spines_rise m o t s e = subst (SpinesIn (m + 1)) (sym e) s
-
 pub inserted_grove : (f : Grove) (z : Parts) (root entry key : ℕ) → IsTended f → root < length f.parts.links → entry < length f.parts.elements → (element_at f.parts entry).leaf_p ≡ places.Nowhere → Plants (keyed f.parts entry key) z root entry → Inserted f (record { parts = z; made = set f.made root (slice_index f.made root + 1) }) root entry key
 unfolding seen_of
 inserted_grove f z root entry key t r e n pl =
@@ -142,7 +147,7 @@ inserted_grove f z root entry key t r e n pl =
             elim (cases_eq q root) [
               | inl w ↦
                   let v : get_or (set f.made root (m + 1)) q 0 ≡ m + 1 = ap (λ y. get_or (set f.made root (m + 1)) y 0) w ∙ get_or-set_same f.made root (m + 1) 0 rm in
-                  subst (λ y. SpinesIn y (us q)) (sym v) (spines_rise m (us q) p.after (p.spines m (t.spines root r)) (ap us w ∙ tree_at t.trees root (Some p.after)))
+                  subst (λ y. SpinesIn y (us q)) (sym v) (subst (SpinesIn (m + 1)) (sym (ap us w ∙ tree_at t.trees root (Some p.after))) (rises_bound m (t.trees root) (Some p.after) (element_at k entry).key p.rises (t.spines root r)))
               | inr d ↦
                   let v : get_or (set f.made root (m + 1)) q 0 ≡ get_or f.made q 0 = get_or-set_other f.made root q (m + 1) 0 d in
                   subst (λ y. SpinesIn y (us q)) (sym v) (subst (SpinesIn (get_or f.made q 0)) (sym (tree_other t.trees root q (Some p.after) d)) (t.spines q h))
@@ -150,6 +155,64 @@ inserted_grove f z root entry key t r e n pl =
       };
       seen = ap (λ l. let s : KeyedRoots = record { roots = l; entries = length z.elements } in s) (lists ∙ ap (λ x. set (lists_from a 0 f.made) root (with_entry key entry x)) (sym at)) ∙ ap (λ c. let s : KeyedRoots = record { roots = set (lists_from a 0 f.made) root (with_entry key entry (root_at root (seen_of f))); entries = c } in s) ce;
     }
+
+-- and its trees are those with the entry
+pub gains : (f : Grove) (z : Parts) (root entry key : ℕ) → root < length f.parts.links → entry < length f.parts.elements → (element_at f.parts entry).leaf_p ≡ places.Nowhere → Plants (keyed f.parts entry key) z root entry → InTrees f.parts z (Gains (length f.parts.links) root entry key)
+gains f z root entry key r e n pl old new so sn =
+    let a : Parts = f.parts in
+    let k : Parts = keyed a entry key in
+    let p : Planted k z old root entry (element_at k entry).key = pl old (key_shape a old entry key so e n) in
+    let is : (element_at k entry).key ≡ key = ap (λ x. x.key) (at_set a entry (record (element_at a entry) { key = key }) e) in
+    let us : ℕ → Option Tree = with_tree old root (Some p.after) in
+    let same : (q : ℕ) → q < length a.links → new q ≡ us q = λ q g. (determined z new us sn p.shape q (subst (λ y. q < y) (sym p.roots) g)).0 in
+    let here : new root ≡ Some p.after = same root r ∙ tree_at old root (Some p.after) in
+    record {
+      after = p.after;
+      after_is = here;
+      grows = subst (λ x. GrowsIn (old root) entry x p.after) is p.grows;
+      rises = subst (λ o. Rises (old root) o key) (sym here) (subst (Rises (old root) (Some p.after)) is p.rises);
+      others = λ q g d. same q g ∙ tree_other old root q (Some p.after) d;
+    }
+
+-- the head of a key in a tree of the forest has a short spine
+pub short_in : (m : ℕ) (w : List Step) (t : Tree) → IsWhole w → Split (plug w t) → SpinesIn m (Some (plug w t)) → 2 ^ spine_length t ≤ m + 1
+short_in m w t h s b =
+    let x : 2 ^ spine_length t ≤ spine_value t + 1 = spine_short t (part_split w t s) in
+    let y : spine_value t ≤ spine_of (first_key t) t = own_value t in
+    let v : spine_of (first_key t) t ≤ spine_of (first_key t) (plug w t) = value_in_whole (first_key t) w t h s in
+    let u : spine_of (first_key t) (plug w t) ≤ m = b (first_key t) in
+    omega (arith, x, y, v, u)
+
+pub are_short : (f : Grove) → IsTended f → AreShort f
+are_short f t trees root way tree sh r is wh =
+    let same : t.trees root ≡ Some (plug way tree) = (determined f.parts t.trees trees t.shape sh root r).0 ∙ is in
+    let s : Split (plug way tree) = (subst (IsRoot f.parts root) is (sh.roots root r)).1 in
+    short_in (slice_index f.made root) way tree wh s (subst (SpinesIn (slice_index f.made root)) same (t.spines root r))
+
+-- an insertion visits few elements
+brief_down : (a : Parts) (ts : ℕ → Option Tree) (m root key outside inside : ℕ) → Shape a ts → root < length a.links → SpinesIn m (ts root) → WayDown a root key outside inside → (outside ≤ 33) × ((k : ℕ) × ((2 ^ k ≤ m + 1) × (inside ≤ 1 + k)))
+brief_down a ts m root key outside inside sh f b d =
+    let w : List Step = d.narrow.way in
+    let t : Tree = d.narrow.tree in
+    let is : ts root ≡ Some (plug w t) = same_option a root (ts root) (Some (plug w t)) (sh.roots root f) d.narrow.whole in
+    let few : length w ≤ 32 = way_short key w t d.narrow.fits d.narrow.split in
+    let short : 2 ^ spine_length t ≤ m + 1 = short_in m w t (fits_whole key w d.narrow.fits) d.narrow.split (subst (SpinesIn m) is b) in
+    let le : inside ≤ 1 + spine_length t = elim (cases_eq (own_key a d.target) key) [ inl e ↦ omega (arith, d.spine e) | inr n ↦ omega (arith, d.branch n) ] in
+    (omega (arith, few, d.way), (spine_length t, (short, le)))
+
+pub brief : (a : Parts) (ts : ℕ → Option Tree) (m root key old new : ℕ) → Shape a ts → root < length a.links → SpinesIn m (ts root) → Visits a root key old new → IsBrief m old new
+brief a ts m root key old new sh f b v =
+    elim (is_bare (link_at a root)) [
+      | inl e ↦ let x = v.empty e in
+          record { outside = v.outside; inside = v.inside; k = 0; all = v.all; way = omega (arith, x.0); power = omega arith; spine = omega (arith, x.1) }
+      | inr n ↦ let x = brief_down a ts m root key v.outside v.inside sh f b (v.down n) in
+          record { outside = v.outside; inside = v.inside; k = x.1.0; all = v.all; way = x.0; power = x.1.1.0; spine = x.1.1.1 }
+    ]
+  where
+    is_bare : (t : Target) → (t ≡ targets.Nothing) ⊎ (t ≡ targets.Nothing → ⊥)
+    is_bare targets.Nothing = inl refl
+    is_bare (targets.Leaf i) = inr (λ h. let z : targets.Leaf i ≡ targets.Nothing = h in cc)
+    is_bare (targets.Node i) = inr (λ h. let z : targets.Node i ≡ targets.Nothing = h in cc)
 
 -- a forest of empty roots is tended
 empty_element : (n i : ℕ) → i < n → get_or (replicate n unused) i unused ≡ unused
@@ -169,7 +232,7 @@ empty_tended roots entries h =
         leaves = λ i g m. absurd (m (ap (λ x. x.leaf_p) (empty_element entries i (subst (λ y. i < y) le g))));
         nodes = λ i g m. absurd (m (ap (λ x. x.node_p) (empty_element entries i (subst (λ y. i < y) le g))));
       };
-      spines = λ q g. tt;
+      spines = λ q g key. omega arith;
     }
 
 lists-none : (a : Parts) (q n : ℕ) → ((i : ℕ) → i < n → list_of a (q + i) ≡ []) → lists_from a q (replicate n 0) ≡ replicate n blank

@@ -7,14 +7,12 @@ use Rattle.std.proofs.Math.Nat.{div-div-eq-div-mul}
 use Rattle.eb_arena.specs.declared.links.Target.{Target}
 use Rattle.eb_arena.specs.declared.links.Target.TheVariants as targets
 use Rattle.eb_arena.specs.declared.links.Place.{Place}
-use Rattle.eb_arena.specs.declared.element.Element.{Element}
 use Rattle.eb_arena.specs.Links.{index_of}
 use Rattle.eb_arena.specs.Parts.{Parts, element_at}
 use Rattle.eb_arena.specs.Shape.{Tree, tip, fork, Keys, Stands, Split, DividesAt, Equals}
 use Rattle.eb_arena.proofs.Trees.{Has, keys_at, keys_map, div_level}
 use Rattle.eb_arena.proofs.Ways.{part_split, leaf_key}
-use Rattle.eb_arena.proofs.Unique.{nothing_stands}
-use Rattle.eb32_walk.specs.Search.{Narrow, own_key, turn_of}
+use Rattle.eb32_walk.specs.Search.{Narrow, Reaches, own_key, turn_of}
 use Rattle.eb32_walk.proofs.Seeking.{Lies, node_lies, leaf_lies, turn_none}
 use Rattle.eb_dups.specs.Spine.{IsTwins}
 use Rattle.eb32_core.specs.Landing.{IsTopBit, IsLanding}
@@ -71,17 +69,14 @@ node_ends a key i place (fork j (pos b) l r) s p t =
           keys_map (λ x. x / 2 ^ b / 2 ≡ d.q) (λ x. x / 2 ^ c ≡ own / 2 ^ c) (fork j (pos b) l r) (λ x f. div_level (suc b) c x own (omega arith) (sym (half_is b x) ∙ (f ∙ (sym o ∙ half_is b own)))) up;
     }
 
-land : (a : Parts) (q key : ℕ) (target : Target) (n : Narrow a q key target) → Lies (own_key a target) key n.tree → Ends (own_key a target) key n.tree → IsLanding a q key target
-land a q key target n l e = record { narrow = n; twins = e.twins; same = l.same; less = l.less; more = l.more; near = e.near }
+land_at : (a : Parts) (q key : ℕ) (target : Target) (n : Narrow a q key target) → Lies (own_key a target) key n.tree → Ends (own_key a target) key n.tree → IsLanding a q key target
+land_at a q key target n l e = record { narrow = n; twins = e.twins; same = l.same; less = l.less; more = l.more; near = e.near }
 
-pub land_node : (a : Parts) (q key i : ℕ) (part : Target) (e : Element) → Narrow a q key part → targets.Node i ≡ part → e ≡ element_at a i → None ≡ turn_of e.key e.bit key → IsLanding a q key part
-land_node a q key i part e n is el t =
-    let m : Narrow a q key (targets.Node i) = subst (Narrow a q key) (sym is) n in
-    let s : turn_of (element_at a i).key (element_at a i).bit key ≡ None = ap (λ z. turn_of z.key z.bit key) (sym el) ∙ sym t in
-    let p : Split m.tree = part_split m.way m.tree m.split in
-    subst (IsLanding a q key) is (land a q key (targets.Node i) m (node_lies a key i m.place m.tree m.stands p s) (node_ends a key i m.place m.tree m.stands p s))
-
-pub land_leaf : (a : Parts) (q key : ℕ) (part : Target) → Narrow a q key part → ((i : ℕ) → part ≡ targets.Node i → ⊥) → IsLanding a q key part
-land_leaf a q key targets.Nothing n h = absurd (nothing_stands a n.place n.tree n.stands)
-land_leaf a q key (targets.Leaf i) n h = land a q key (targets.Leaf i) n (leaf_lies a key i n.place n.tree n.stands) (leaf_ends a key i n.place n.tree n.stands)
-land_leaf a q key (targets.Node i) n h = absurd (h i refl)
+-- where a descent stops, the key branches off or all of it stands there
+pub land : (a : Parts) (q key old new : ℕ) (part : Target) → Reaches a q key old new part → IsLanding a q key part
+land a q key old new targets.Nothing r = absurd r.stops
+land a q key old new (targets.Leaf i) r =
+    land_at a q key (targets.Leaf i) r.narrow (leaf_lies a key i r.narrow.place r.narrow.tree r.narrow.stands) (leaf_ends a key i r.narrow.place r.narrow.tree r.narrow.stands)
+land a q key old new (targets.Node i) r =
+    let s : Split r.narrow.tree = part_split r.narrow.way r.narrow.tree r.narrow.split in
+    land_at a q key (targets.Node i) r.narrow (node_lies a key i r.narrow.place r.narrow.tree r.narrow.stands s r.stops) (node_ends a key i r.narrow.place r.narrow.tree r.narrow.stands s r.stops)

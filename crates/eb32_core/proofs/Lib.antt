@@ -8,7 +8,7 @@ pub mod UnlinkNames
 pub mod UnlinkSteps
 pub mod UnlinkSplit
 pub mod UnlinkItems
-pub mod UnlinkSpines
+pub mod Values
 pub mod UnlinkSpares
 pub mod UnlinkWrites
 pub mod UnlinkCut

@@ -1,28 +1,32 @@
 -- The tree of a root with one more entry.
-use Rattle.std.proofs.Common.{◌≡◌, ◌≢◌, ℕ, ◌+◌, ◌-◌, ◌*◌, ◌/◌, ◌^◌, ◌<◌, ◌≤◌, inl, inr, List, [], ◌∷◌, ◌++◌, length, cond, refl, sym, ap, ◌∙◌, subst, arith, append_assoc}
+use Rattle.std.proofs.Common.{◌≡◌, ◌≢◌, ℕ, ◌+◌, ◌-◌, ◌*◌, ◌/◌, ◌^◌, ◌<◌, ◌≤◌, inl, inr, List, [], ◌∷◌, ◌++◌, length, cond, false, true, refl, sym, ap, ◌∙◌, subst, arith, append_assoc}
 use Rattle.std.specs.Prelude.{pos, negsuc, nat_le, Option, Some}
-use Rattle.std.proofs.lemmas.Bool.{le-leb, lt-leb}
+use Rattle.std.proofs.lemmas.Bool.{le-leb, lt-leb, cases_lt, false≢true}
 use Rattle.std.proofs.lemmas.Nat.{pow_pos}
 use Rattle.sched_base.specs.KeyedList.{KeyedItem, inserted}
 use Rattle.eb_arena.specs.declared.links.Side.{Side}
 use Rattle.eb_arena.specs.declared.links.Side.TheVariants as sides
 use Rattle.eb_arena.specs.declared.links.Target.{Target}
+use Rattle.eb_arena.specs.declared.links.Target.TheVariants as targets
 use Rattle.eb_arena.specs.declared.links.Place.TheVariants as places
-use Rattle.eb_arena.specs.Parts.{Parts, element_at, up_of}
-use Rattle.eb_arena.specs.Shape.{Tree, tip, fork, items, items_of, Keys, AllKeys, HasLeaf, Split, DividesAt, IsRoot, Shape}
+use Rattle.eb_arena.specs.Parts.{Parts, element_at, link_at, up_of}
+use Rattle.eb_arena.specs.Shape.{Tree, tip, fork, items, items_of, Keys, AllKeys, HasLeaf, Split, DividesAt, Stands, IsRoot, Shape, root_place, list_of}
 use Rattle.eb_arena.specs.Way.{Step, from_left, from_right, plug, before, after}
 use Rattle.eb_arena.proofs.Trees.{Has, keys_at, keys_map, some_key, div_le_div}
 use Rattle.eb_arena.proofs.Keyed.{all-append, all_items, all_map}
 use Rattle.eb_arena.proofs.Ways.{part_split, items-plug}
-use Rattle.eb_arena.proofs.Unique.{same_option}
-use Rattle.eb32_walk.specs.Search.{Narrow, Fits, own_key}
+use Rattle.eb_arena.proofs.Unique.{same_option, nothing_stands}
+use Rattle.eb_arena.proofs.Reading.{same_tree}
+use Rattle.eb32_walk.specs.Search.{Narrow, Fits, IsBare, Reaches, own_key}
 use Rattle.eb_dups.specs.Grown.{grown, attached, with_tree}
-use Rattle.eb_dups.specs.Spine.{IsTwins, IsWhole, spine_value, KeyHead, TwinAdded}
-use Rattle.eb_dups.specs.Added.{AddsTwin}
+use Rattle.eb_dups.specs.Spine.{IsTwins, IsWhole, MayRise, spine_value, spine_length, spine_of, KeyHead, TwinAdded}
+use Rattle.eb_dups.specs.Added.{AddsTwin, VisitsSpine}
 use Rattle.eb_dups.proofs.Regrown.{Growth, Outcome, outcome, grown_shape, grown_leaf}
+use Rattle.eb_dups.proofs.Added.{plug-append}
 use Rattle.eb_dups.proofs.Ending.{up_of_is}
 use Rattle.eb32_core.specs.Landing.{IsTopBit, IsLanding, SideIs}
-use Rattle.eb32_core.specs.Planted.{Spines, SpinesIn, IsRoomy, Plants}
+use Rattle.eb32_core.specs.Planted.{SpinesIn, IsRoomy, GrowsIn, Plants, Visits, has_key, spine_in}
+use Rattle.eb32_core.proofs.Values.{value_of_key, value_of_other, value_in_whole, value_up, grown_value, keys_have, middle_has, none_has}
 
 -- an item goes in between smaller or equal keys and greater ones
 pub inserted_at : (xs ys : List KeyedItem) (e k : ℕ) → AllKeys (λ x. x ≤ k) xs → AllKeys (λ x. k < x) ys → inserted (λ y. nat_le y.key k) (record { key = k; entry = e }) (xs ++ ys) ≡ xs ++ record { key = k; entry = e } ∷ ys
@@ -40,39 +44,6 @@ fits_whole key (from_left i (pos b) r ∷ w) h = tt
 fits_whole key (from_left i (negsuc n) r ∷ w) h = absurd h
 fits_whole key (from_right i (pos b) l ∷ w) h = tt
 fits_whole key (from_right i (negsuc n) l ∷ w) h = absurd h
-
-spines_more : (m : ℕ) (t : Tree) → Spines m t → Spines (m + 1) t
-spines_more m (tip e k) h = tt
-spines_more m (fork i (pos b) l r) h = (spines_more m l h.0, spines_more m r h.1)
-spines_more m (fork i (negsuc n) l r) h = let x : 2 ^ n + spine_value r ≤ m = h in let y : 2 ^ n + spine_value r ≤ m + 1 = omega arith in y
-
-pub spines_part : (key m : ℕ) (w : List Step) (t : Tree) → Fits key w → Spines m (plug w t) → Spines m t
-spines_part key m [] t f h = h
-spines_part key m (from_left i (pos b) r ∷ w) t f h = (spines_part key m w (fork i (pos b) t r) f.1 h).0
-spines_part key m (from_left i (negsuc n) r ∷ w) t f h = absurd f
-spines_part key m (from_right i (pos b) l ∷ w) t f h = (spines_part key m w (fork i (pos b) l t) f.1 h).1
-spines_part key m (from_right i (negsuc n) l ∷ w) t f h = absurd f
-
-spines_up : (key m : ℕ) (w : List Step) (t u : Tree) → Fits key w → Spines m (plug w t) → Spines (m + 1) u → Spines (m + 1) (plug w u)
-spines_up key m [] t u f h g = g
-spines_up key m (from_left i (pos b) r ∷ w) t u f h g =
-    let o : Spines m (fork i (pos b) t r) = spines_part key m w (fork i (pos b) t r) f.1 h in
-    spines_up key m w (fork i (pos b) t r) (fork i (pos b) u r) f.1 h (g, spines_more m r o.1)
-spines_up key m (from_left i (negsuc n) r ∷ w) t u f h g = absurd f
-spines_up key m (from_right i (pos b) l ∷ w) t u f h g =
-    let o : Spines m (fork i (pos b) l t) = spines_part key m w (fork i (pos b) l t) f.1 h in
-    spines_up key m w (fork i (pos b) l t) (fork i (pos b) l u) f.1 h (spines_more m l o.0, g)
-spines_up key m (from_right i (negsuc n) l ∷ w) t u f h g = absurd f
-
-pub twins_spine : (m : ℕ) (t : Tree) → IsTwins t → Spines m t → spine_value t ≤ m
-twins_spine m (tip e k) h s = omega arith
-twins_spine m (fork i (pos b) l r) h s = absurd h
-twins_spine m (fork i (negsuc n) l r) h s = s
-
-spine_twins : (m : ℕ) (t : Tree) → IsTwins t → spine_value t ≤ m → Spines m t
-spine_twins m (tip e k) h s = tt
-spine_twins m (fork i (pos b) l r) h s = absurd h
-spine_twins m (fork i (negsuc n) l r) h s = s
 
 -- what is in the tree of a root whose arena has the shape
 pub tree_of : (a : Parts) (ts : ℕ → Option Tree) (q : ℕ) (t : Tree) → Shape a ts → q < length a.links → IsRoot a q (Some t) → ts q ≡ Some t
@@ -103,28 +74,38 @@ fits_split key (from_right i (pos b) l0 ∷ w) s g f p q l k =
     fits_split key w (fork i (pos b) l0 s) (fork i (pos b) l0 g) f.1 p ((elim o.0 [ inl y ↦ inl y | inr y ↦ inr (l i y) ]), o.1, record { q = d.q; left = d.left; right = k (λ y. y / 2 ^ b ≡ 2 * d.q + 1) d.right at }, o.3, q) (λ y z. elim z [ inl z ↦ inl z | inr z ↦ inr (l y z) ]) (λ P y z. (y.0, k P y.1 z))
 
 -- the head of the key that the descent came to
-pub landed_head : (a : Parts) (q : ℕ) (part : Target) (e : ℕ) (l : IsLanding a q (element_at a e).key part) → IsRoomy a q → q < length a.links → own_key a part ≡ (element_at a e).key → KeyHead a part (element_at a e).key
-landed_head a q part e l h f o =
-    let n : Narrow a q (element_at a e).key part = l.narrow in
-    let is : h.trees q ≡ Some (plug n.way n.tree) = tree_of a h.trees q (plug n.way n.tree) h.shape f n.whole in
-    let s : Spines h.most n.tree = spines_part (element_at a e).key h.most n.way n.tree n.fits (subst (SpinesIn h.most) is h.spines) in
-    let le : spine_value n.tree ≤ h.most = twins_spine h.most n.tree (l.twins o) s in
-    record {
-      trees = h.trees;
+pub landed_head : (a : Parts) (ts : ℕ → Option Tree) (q key : ℕ) (part : Target) → IsLanding a q key part → Shape a ts → q < length a.links → own_key a part ≡ key → (h : KeyHead a part key) × (h.root ≡ q)
+landed_head a ts q key part l h f o =
+    let n : Narrow a q key part = l.narrow in
+    let is : ts q ≡ Some (plug n.way n.tree) = tree_of a ts q (plug n.way n.tree) h f n.whole in
+    let head : KeyHead a part key = record {
+      trees = ts;
       root = q;
       way = n.way;
       place = n.place;
       tree = n.tree;
-      shape = h.shape;
+      shape = h;
       exists = f;
       tree_is = is;
       leads = n.leads;
       stands = n.stands;
-      whole = fits_whole (element_at a e).key n.way n.fits;
+      whole = fits_whole key n.way n.fits;
       twins = l.twins o;
       keys = l.same o;
-      room = let r : h.most < 2 ^ 63 - 1 = h.room in omega (arith, le, r);
-    }
+    } in
+    (head, refl)
+
+-- and its spine value has room for one more
+pub landed_rises : (a : Parts) (q key : ℕ) (part : Target) → IsLanding a q key part → IsRoomy a q → q < length a.links → own_key a part ≡ key → MayRise a part
+landed_rises a q key part l h f o place tree st =
+    let n : Narrow a q key part = l.narrow in
+    let is : h.trees q ≡ Some (plug n.way n.tree) = tree_of a h.trees q (plug n.way n.tree) h.shape f n.whole in
+    let same : n.tree ≡ tree = same_tree a n.tree tree part n.place place n.stands st in
+    let own : spine_of key n.tree ≡ spine_value n.tree = value_of_key key n.tree (l.twins o) (l.same o) in
+    let part_le : spine_of key n.tree ≤ spine_of key (plug n.way n.tree) = value_in_whole key n.way n.tree (fits_whole key n.way n.fits) n.split in
+    let le : spine_of key (plug n.way n.tree) ≤ h.most = subst (SpinesIn h.most) is h.spines key in
+    let room : h.most < 2 ^ 63 - 1 = h.room in
+    subst (λ t. spine_value t < 2 ^ 63 - 1) same (omega (arith, own, part_le, le, room))
 
 -- an insertion beside equal keys plants the entry
 pub twin_planted : (a z : Parts) (q : ℕ) (part : Target) (e : ℕ) → IsLanding a q (element_at a e).key part → q < length a.links → own_key a part ≡ (element_at a e).key → AddsTwin a z part e → Plants a z q e
@@ -132,7 +113,7 @@ twin_planted a z q part e l f o h ts sh =
     let key : ℕ = (element_at a e).key in
     let n : Narrow a q key part = l.narrow in
     let is : ts q ≡ Some (plug n.way n.tree) = tree_of a ts q (plug n.way n.tree) sh f n.whole in
-    let r : TwinAdded a z ts q n.way n.tree key e = h ts q n.way n.place n.tree sh f is n.leads n.stands in
+    let r : TwinAdded a z ts q n.way part n.tree key e = h ts q n.way n.place n.tree sh f is n.leads n.stands in
     let item : KeyedItem = record { key = key; entry = e } in
     let bs : List KeyedItem = before n.way in
     let zs : List KeyedItem = after n.way in
@@ -146,11 +127,25 @@ twin_planted a z q part e l f o h ts sh =
       roots = r.roots;
       shape = r.shape;
       items_are = new ∙ (sym (inserted_at (bs ++ items n.tree) zs e key (all-append (λ x. x ≤ key) bs (items n.tree) low mid) n.high) ∙ ap (inserted (λ y. nat_le y.key key) item) (sym old));
-      spines = λ m s.
-          let w : Spines m (plug n.way n.tree) = subst (SpinesIn m) is s in
-          let le : spine_value n.tree ≤ m = twins_spine m n.tree (l.twins o) (spines_part key m n.way n.tree n.fits w) in
-          let up : spine_value r.after ≡ spine_value n.tree + 1 = r.spine in
-          spines_up key m n.way n.tree r.after n.fits w (spine_twins (m + 1) r.after r.twins (omega (arith, le, up)));
+      grows = subst (λ o. GrowsIn o e key (plug n.way r.after)) (sym is) (record {
+        way = r.grows.way ++ n.way;
+        part = r.grows.part;
+        side = r.grows.side;
+        bit = r.grows.bit;
+        was = ap (plug n.way) r.grows.was ∙ sym (plug-append r.grows.way n.way r.grows.part);
+        is = ap (plug n.way) r.grows.is ∙ sym (plug-append r.grows.way n.way (grown r.grows.side e r.grows.bit key r.grows.part));
+      });
+      rises = record {
+        same_key = λ h.
+            let up : spine_of key r.after ≡ spine_of key n.tree + 1 = value_of_key key r.after r.twins r.keys ∙ (r.spine ∙ ap (λ m. m + 1) (sym (value_of_key key n.tree (l.twins o) (l.same o)))) in
+            value_up key key 1 n.way n.tree r.after n.fits up ∙ ap (λ p. spine_in key p + 1) (sym is);
+        new_key = λ h. absurd (false≢true (sym h ∙ (ap (has_key key) (ap items_of is ∙ items-plug n.way n.tree) ∙ middle_has key bs (items n.tree) zs (keys_have key n.tree (l.same o)))));
+        other_keys = λ k ne.
+            let none : spine_of k r.after ≡ spine_of k n.tree + 0 = value_of_other key k r.after r.twins r.keys ne ∙ ap (λ m. m + 0) (sym (value_of_other key k n.tree (l.twins o) (l.same o) ne)) in
+            let same : spine_of k (plug n.way r.after) ≡ spine_of k (plug n.way n.tree) + 0 = value_up key k 0 n.way n.tree r.after n.fits none in
+            let plain : spine_of k (plug n.way r.after) ≡ spine_of k (plug n.way n.tree) = omega (arith, same) in
+            plain ∙ ap (spine_in k) (sym is);
+      };
     }
 
 -- what the new node over the part divides
@@ -182,10 +177,6 @@ grown_keys : (side : Side) (e b key : ℕ) (t : Tree) (P : ℕ → Type 0) → K
 grown_keys sides.Left e b key t P h k = (k, h)
 grown_keys sides.Right e b key t P h k = (h, k)
 
-grown_spines : (side : Side) (e b key m : ℕ) (t : Tree) → Spines m t → Spines (m + 1) (grown side e (pos b) key t)
-grown_spines sides.Left e b key m t h = (tt, spines_more m t h)
-grown_spines sides.Right e b key m t h = (spines_more m t h, tt)
-
 branch_items : (own key b e : ℕ) (side : Side) (t : Tree) (bs zs : List KeyedItem) → SideIs own key side → AllKeys (λ x. x < key) bs → AllKeys (λ x. key < x) zs → (own < key → Keys (λ x. x < key) t) → (key < own → Keys (λ x. key < x) t) → bs ++ (items (grown side e (pos b) key t) ++ zs) ≡ inserted (λ y. nat_le y.key key) (record { key = key; entry = e }) (bs ++ (items t ++ zs))
 branch_items own key b e sides.Left t bs zs s low high less more =
     let le : AllKeys (λ x. x ≤ key) bs = all_map (λ x. x < key) (λ x. x ≤ key) bs (λ x y. omega arith) low in
@@ -196,6 +187,21 @@ branch_items own key b e sides.Right t bs zs s low high less more =
     let le : AllKeys (λ x. x ≤ key) bs = all_map (λ x. x < key) (λ x. x ≤ key) bs (λ x y. omega arith) low in
     let mid : AllKeys (λ x. x ≤ key) (items t) = all_items (λ x. x ≤ key) t (keys_map (λ x. x < key) (λ x. x ≤ key) t (λ x y. omega arith) (less (s.right refl))) in
     ap (λ x. bs ++ x) (append_assoc (items t) (item ∷ []) zs) ∙ (sym (append_assoc bs (items t) (item ∷ zs)) ∙ (sym (inserted_at (bs ++ items t) zs e key (all-append (λ x. x ≤ key) bs (items t) le mid) high) ∙ ap (inserted (λ y. nat_le y.key key) item) (append_assoc bs (items t) zs)))
+
+-- no item has a key that branches off
+no_key : (own key : ℕ) (t : Tree) (bs zs : List KeyedItem) → own ≢ key → AllKeys (λ x. x < key) bs → AllKeys (λ x. key < x) zs → (own < key → Keys (λ x. x < key) t) → (key < own → Keys (λ x. key < x) t) → AllKeys (λ x. x ≡ key → ⊥) (bs ++ (items t ++ zs))
+no_key own key t bs zs ne low high less more =
+    let mid : Keys (λ x. x ≡ key → ⊥) t = elim (cases_lt own key) [
+      | inl lt ↦ keys_map (λ x. x < key) (λ x. x ≡ key → ⊥) t (λ x y e. omega arith) (less lt)
+      | inr le ↦ keys_map (λ x. key < x) (λ x. x ≡ key → ⊥) t (λ x y e. omega arith) (more (omega (arith, ne)))
+    ] in
+    all-append (λ x. x ≡ key → ⊥) bs (items t ++ zs) (all_map (λ x. x < key) (λ x. x ≡ key → ⊥) bs (λ x y e. omega arith) low) (all-append (λ x. x ≡ key → ⊥) (items t) zs (all_items (λ x. x ≡ key → ⊥) t mid) (all_map (λ x. key < x) (λ x. x ≡ key → ⊥) zs (λ x y e. omega arith) high))
+
+-- where the key of the part is another, the root does not have the key
+pub landed_none : (a : Parts) (q key : ℕ) (part : Target) → IsLanding a q key part → (own_key a part ≡ key → ⊥) → has_key key (list_of a q) ≡ false
+landed_none a q key part l ne =
+    let n : Narrow a q key part = l.narrow in
+    ap (has_key key) n.list_is ∙ none_has key (before n.way ++ (items n.tree ++ after n.way)) (no_key (own_key a part) key n.tree (before n.way) (after n.way) ne n.low n.high l.less l.more)
 
 -- a new node over the part from which the key branches off plants the entry
 pub branch_planted : (a : Parts) (q : ℕ) (part : Target) (e b : ℕ) (side : Side) → IsLanding a q (element_at a e).key part → q < length a.links → e < length a.elements → (element_at a e).leaf_p ≡ places.Nowhere → IsTopBit (own_key a part) (element_at a e).key b → SideIs (own_key a part) (element_at a e).key side → Plants a (attached a part (up_of a part) e side (pos b)) q e
@@ -214,11 +220,52 @@ branch_planted a q part e b side l f fe free top sd ts sh =
     let old : items_of (ts q) ≡ before n.way ++ (items n.tree ++ after n.way) = ap items_of is ∙ items-plug n.way n.tree in
     let item : KeyedItem = record { key = key; entry = e } in
     let out : Outcome a (attached a part n.place e side (pos b)) q n.way part n.place n.tree e side (pos b) = outcome a ts q n.way part n.place n.tree e side (pos b) g in
+    let same_value : (k : ℕ) → spine_of k (plug n.way new) ≡ spine_in k (ts q) = λ k.
+    let up : spine_of k (plug n.way new) ≡ spine_of k (plug n.way n.tree) + 0 = value_up key k 0 n.way n.tree new n.fits (grown_value k side e b key n.tree) in
+    let plain : spine_of k (plug n.way new) ≡ spine_of k (plug n.way n.tree) = omega (arith, up) in
+    plain ∙ ap (spine_in k) (sym is) in
     record {
       after = plug n.way new;
       elements = ap (λ o. length (attached a part o e side (pos b)).elements) u ∙ out.grew.count;
       roots = ap (λ o. length (attached a part o e side (pos b)).links) u ∙ out.grew.roots;
       shape = subst (λ o. Shape (attached a part o e side (pos b)) (with_tree ts q (Some (plug n.way new)))) (sym u) s;
       items_are = items-plug n.way new ∙ (branch_items own key b e side n.tree (before n.way) (after n.way) sd n.low n.high l.less l.more ∙ ap (inserted (λ y. nat_le y.key key) item) (sym old));
-      spines = λ m x. spines_up key m n.way n.tree new n.fits (subst (SpinesIn m) is x) (grown_spines side e b key m n.tree (spines_part key m n.way n.tree n.fits (subst (SpinesIn m) is x)));
+      grows = subst (λ o. GrowsIn o e key (plug n.way new)) (sym is) (record { way = n.way; part = n.tree; side = side; bit = pos b; was = refl; is = refl });
+      rises = record {
+        same_key = λ h. absurd (false≢true (sym (ap (has_key key) old ∙ none_has key (before n.way ++ (items n.tree ++ after n.way)) (no_key own key n.tree (before n.way) (after n.way) (λ z. top.differ (ap (λ y. y / 2 ^ b) z)) n.low n.high l.less l.more)) ∙ h));
+        new_key = λ h. same_value key;
+        other_keys = λ k ne. same_value k;
+      };
     }
+
+-- ---- what was visited
+
+down_some : (a : Parts) (q key : ℕ) (part : Target) → Narrow a q key part → link_at a q ≡ targets.Nothing → ⊥
+down_some a q key part n e = nothing_stands a (root_place a q) (plug n.way n.tree) (subst (λ t. Stands a t (root_place a q) (plug n.way n.tree)) e n.whole.0)
+
+pub visits_twin : (a : Parts) (q key old mid new : ℕ) (part : Target) → Reaches a q key old mid part → own_key a part ≡ key → VisitsSpine a part mid new → Visits a q key old new
+visits_twin a q key old mid new part r o v =
+    let down : mid ≡ old + (length r.narrow.way + 1) = r.visits in
+    let up : new ≡ mid + (spine_length r.narrow.tree + 1) = v r.narrow.place r.narrow.tree r.narrow.stands in
+    record {
+      outside = length r.narrow.way + 1;
+      inside = spine_length r.narrow.tree + 1;
+      all = omega (arith, down, up);
+      empty = λ e. absurd (down_some a q key part r.narrow e);
+      down = λ n. record { target = part; narrow = r.narrow; way = refl; spine = λ e. refl; branch = λ ne. absurd (ne o) };
+    }
+
+pub visits_branch : (a : Parts) (q key old new : ℕ) (part : Target) → Reaches a q key old new part → (own_key a part ≡ key → ⊥) → Visits a q key old new
+visits_branch a q key old new part r o =
+    let down : new ≡ old + (length r.narrow.way + 1) = r.visits in
+    record {
+      outside = length r.narrow.way + 1;
+      inside = 0;
+      all = omega (arith, down);
+      empty = λ e. absurd (down_some a q key part r.narrow e);
+      down = λ n. record { target = part; narrow = r.narrow; way = refl; spine = λ e. absurd (o e); branch = λ ne. refl };
+    }
+
+pub visits_none : (a : Parts) (q key old new : ℕ) → IsBare a q old new → Visits a q key old new
+visits_none a q key old new b =
+    record { outside = 0; inside = 0; all = omega (arith, b.none); empty = λ e. (refl, refl); down = λ n. absurd (n b.empty) }

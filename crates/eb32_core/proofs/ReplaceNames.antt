@@ -9,8 +9,7 @@ use Rattle.eb_arena.specs.declared.links.Place.{Place}
 use Rattle.eb_arena.specs.declared.links.Place.TheVariants as places
 use Rattle.eb_arena.specs.Parts.{Parts}
 use Rattle.eb_arena.specs.Shape.{Tree, tip, fork, items, HasNode, root_place}
-use Rattle.eb_dups.specs.Spine.{spine_value}
-use Rattle.eb32_core.specs.Planted.{Spines}
+use Rattle.eb_dups.specs.Spine.{spine_value, first_key, spine_of}
 use Rattle.eb32_core.specs.Removal.{renamed}
 
 -- the index of a node afterwards
@@ -57,10 +56,16 @@ renamed_value e h (tip i k) = refl
 renamed_value e h (fork i (pos b) l r) = refl
 renamed_value e h (fork i (negsuc n) l r) = ap (λ m. 2 ^ n + m) (renamed_value e h r)
 
-pub renamed_spines : (e h m : ℕ) (t : Tree) → Spines m t → Spines m (renamed e h t)
-renamed_spines e h m (tip i k) g = tt
-renamed_spines e h m (fork i (pos b) l r) g = (renamed_spines e h m l g.0, renamed_spines e h m r g.1)
-renamed_spines e h m (fork i (negsuc n) l r) g = subst (λ v. 2 ^ n + v ≤ m) (sym (renamed_value e h r)) g
+renamed_first : (e h : ℕ) (t : Tree) → first_key (renamed e h t) ≡ first_key t
+renamed_first e h (tip i k) = refl
+renamed_first e h (fork i b l r) = renamed_first e h l
+
+pub renamed_values : (e h key : ℕ) (t : Tree) → spine_of key (renamed e h t) ≡ spine_of key t
+renamed_values e h key (tip i k) = refl
+renamed_values e h key (fork i (pos b) l r) =
+    ap (λ m. m + spine_of key (renamed e h r)) (renamed_values e h key l) ∙ ap (λ m. spine_of key l + m) (renamed_values e h key r)
+renamed_values e h key (fork i (negsuc n) l r) =
+    ap (λ m. if m == key then 2 ^ n + spine_value (renamed e h r) else 0) (renamed_first e h l) ∙ ap (λ m. if first_key l == key then 2 ^ n + m else 0) (renamed_value e h r)
 
 -- other nodes stay, and the node itself has its new index
 pub renamed_node : (e h x : ℕ) (t : Tree) → (x ≡ e → ⊥) → HasNode x t → HasNode x (renamed e h t)

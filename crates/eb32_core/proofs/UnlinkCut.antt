@@ -13,7 +13,8 @@ use Rattle.eb_arena.specs.Laws.{SameLeaf, SameOn}
 use Rattle.eb_arena.proofs.Frame.{kept, moved}
 use Rattle.eb_dups.proofs.Distinct.{NoShare, Distinct, distinct, part_distinct}
 use Rattle.eb_dups.proofs.Regrown.{top_leaf, top_node}
-use Rattle.eb32_core.proofs.UnlinkSteps.{paired, pair_near_leaf, pair_far_leaf, pair_far_node, pair_top, Apart, pair_apart}
+use Rattle.eb32_core.specs.Removal.{paired}
+use Rattle.eb32_core.proofs.UnlinkSteps.{pair_near_leaf, pair_far_leaf, pair_far_node, pair_top, Apart, pair_apart}
 use Rattle.eb32_core.proofs.UnlinkSpares.{Spares, spares_on}
 use Rattle.eb32_core.proofs.UnlinkWrites.{loosened, raised, CutLeaf, CutNode, spares_loosened, spares_raised, Loose, loose_raised, raised_links}
 

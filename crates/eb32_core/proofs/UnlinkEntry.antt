@@ -1,21 +1,25 @@
 -- The leaf of an entry, the node above it, and what is on its other side.
-use Rattle.std.proofs.Common.{◌≡◌, ℕ, ◌+◌, ◌<◌, ◌≤◌, List, [], ◌∷◌, length, refl, sym, ap, ◌∙◌, subst, arith}
-use Rattle.std.specs.Prelude.{ℤ, Option, Some, None, IsSomeAnd}
+use Rattle.std.proofs.Common.{◌≡◌, ℕ, ◌+◌, ◌<◌, ◌≤◌, inl, inr, Bool, true, false, eqb, eq-eqb, ne_eqb, List, [], ◌∷◌, length, refl, sym, ap, ◌∙◌, subst, arith}
+use Rattle.std.specs.Prelude.{ℤ, ◌||◌, Option, Some, None, IsSomeAnd}
+use Rattle.std.proofs.lemmas.Bool.{cases_eq}
+use Rattle.eb_arena.specs.declared.links.Side.{Side}
 use Rattle.eb_arena.specs.declared.links.Side.TheVariants as sides
 use Rattle.eb_arena.specs.declared.links.Target.{Target}
 use Rattle.eb_arena.specs.declared.links.Target.TheVariants as targets
 use Rattle.eb_arena.specs.declared.links.Place.{Place}
 use Rattle.eb_arena.specs.declared.links.Place.TheVariants as places
-use Rattle.eb_arena.specs.Links.{index_of, place_index, place_side, opposite}
+use Rattle.eb_arena.specs.Links.{index_of, is_nowhere, place_index, place_side, opposite}
 use Rattle.eb_arena.specs.Parts.{Parts, element_at, link_at, child}
 use Rattle.eb_arena.specs.Shape.{Tree, tip, fork, Stands, Split, HasLeaf, IsRoot, root_place, InSome, Shape, HasShape}
 use Rattle.eb_arena.specs.Way.{Step, from_left, from_right, plug, Leads}
-use Rattle.eb_arena.proofs.Ways.{LeafWay, leaf_way}
+use Rattle.eb_arena.proofs.Ways.{LeafWay, leaf_way, part_split}
 use Rattle.eb_arena.proofs.Unique.{leads_somewhere}
 use Rattle.eb32_walk.specs.Ends.{IsIn}
 use Rattle.eb_dups.proofs.LeftOfRoot.{left_of_root}
-use Rattle.eb32_core.specs.Removal.{Unlinked, Unlinks}
-use Rattle.eb32_core.proofs.UnlinkSteps.{paired}
+use Rattle.eb_dups.proofs.Distinct.{Distinct, distinct, part_distinct, node_leaf}
+use Rattle.eb_dups.proofs.Regrown.{top_node}
+use Rattle.eb32_core.proofs.UnlinkSteps.{Apart, pair_apart}
+use Rattle.eb32_core.specs.Removal.{Unlinked, Unlinks, paired}
 use Rattle.eb32_core.proofs.UnlinkWrites.{cut}
 use Rattle.eb32_core.proofs.UnlinkCut.{part_in, Hanging, Cut}
 use Rattle.eb32_core.proofs.UnlinkFoot.{cut_is}
@@ -108,3 +112,44 @@ pub may_unlink : (a : Parts) (e : ℕ) → HasShape a → IsIn a e → place_ind
 may_unlink a e h i fp =
     let s : InSome a h.0 (HasLeaf e) = h.1.leaves e i.0 i.1 in
     may_in a e s.0 (h.0 s.0) s.1.0 (h.1.roots s.0 s.1.0) s.1.1 fp
+
+far_split : (side : Side) (p : ℕ) (b : ℤ) (t u : Tree) → Split (paired side p b t u) → Split u
+far_split sides.Left p b t u s = s.4
+far_split sides.Right p b t u s = s.3
+
+or_none : (b : Bool) → (b || false) ≡ b
+or_none true = refl
+or_none false = refl
+
+or_some : (b : Bool) → (b || true) ≡ true
+or_some true = refl
+or_some false = refl
+
+-- the node of the entry is used afterwards where it was used and is not the one that went
+own_in : (a : Parts) (e q : ℕ) (o : Option Tree) → q < length a.links → IsRoot a q o → IsSomeAnd o (HasLeaf e) → place_index (element_at a e).leaf_p < length a.elements → is_nowhere (element_at (unlinked a e) e).node_p ≡ (is_nowhere (element_at a e).node_p || eqb (place_index (element_at a e).leaf_p) e)
+own_in a e q None f r h fp = absurd h
+own_in a e q (Some t) f r h fp =
+    let place : Place = (element_at a e).leaf_p in
+    let p : ℕ = place_index place in
+    let side : Side = place_side place in
+    let x : Foot a q t e place = foot a q t e f r h fp in
+    let leaf : Tree = tip e (element_at a e).key in
+    let z : Parts = unlinked a e in
+    let c : Cut a z q x.way e p (beside a place) (paired side p x.bit leaf x.far) x.far = cut_is a q x.way side e p (element_at a e).key x.bit (beside a place) x.far x.hanging in
+    elim (cases_eq p e) [
+      | inl same ↦
+          let out : (element_at z e).node_p ≡ places.Nowhere = subst (λ n. (element_at z n).node_p ≡ places.Nowhere) same c.loose.unused in
+          ap is_nowhere out ∙ sym (ap (λ b. is_nowhere (element_at a e).node_p || b) (eq-eqb p e same) ∙ or_some (is_nowhere (element_at a e).node_p))
+      | inr ne ↦
+          let d : Distinct (plug x.way (paired side p x.bit leaf x.far)) = distinct a q (plug x.way (paired side p x.bit leaf x.far)) [] _ _ x.hanging.whole refl x.hanging.split in
+          let v : Apart p leaf x.far = pair_apart side p x.bit leaf x.far (part_distinct x.way (paired side p x.bit leaf x.far) d) in
+          let fs : Split x.far = far_split side p x.bit leaf x.far (part_split x.way (paired side p x.bit leaf x.far) x.hanging.split) in
+          let away : beside a place ≡ targets.Node e → ⊥ = λ m. v.share.leaves e refl (node_leaf x.far e fs (top_node a (beside a place) (places.Under p (opposite side)) x.far e x.hanging.stands m)) in
+          let same : (element_at z e).node_p ≡ (element_at a e).node_p = c.nodes e (λ y. elim y [ inl y ↦ ne (sym y) | inr y ↦ away y ]) in
+          ap is_nowhere same ∙ sym (ap (λ b. is_nowhere (element_at a e).node_p || b) (ne_eqb p e ne) ∙ or_none (is_nowhere (element_at a e).node_p))
+    ]
+
+pub own_node : (a : Parts) (e : ℕ) → HasShape a → IsIn a e → place_index (element_at a e).leaf_p < length a.elements → is_nowhere (element_at (unlinked a e) e).node_p ≡ (is_nowhere (element_at a e).node_p || eqb (place_index (element_at a e).leaf_p) e)
+own_node a e h i fp =
+    let s : InSome a h.0 (HasLeaf e) = h.1.leaves e i.0 i.1 in
+    own_in a e s.0 (h.0 s.0) s.1.0 (h.1.roots s.0 s.1.0) s.1.1 fp

@@ -19,7 +19,8 @@ use Rattle.eb_arena.proofs.Frame.{kept, at_set}
 use Rattle.eb_dups.proofs.Distinct.{part_distinct, away}
 use Rattle.eb_dups.proofs.Moves.{LinkedNode, linked_node, linked_root}
 use Rattle.eb_dups.proofs.Regrown.{plug_leaf, plug_node, SameWay, lift}
-use Rattle.eb32_core.proofs.UnlinkSteps.{step, paired, pair_near_leaf, pair_near_node, pair_far_node, pair_top, Apart, pair_apart, PairStands, pair_stands, stands_pair, StepLeads, step_leads, Rechild, rechild}
+use Rattle.eb32_core.specs.Removal.{step, paired}
+use Rattle.eb32_core.proofs.UnlinkSteps.{pair_near_leaf, pair_near_node, pair_far_node, pair_top, Apart, pair_apart, PairStands, pair_stands, stands_pair, StepLeads, step_leads, Rechild, rechild}
 use Rattle.eb32_core.proofs.UnlinkSpares.{Spares, spares_then, spares_less, spares_child, spares_link, spares_on, spares_way}
 use Rattle.eb32_core.proofs.UnlinkWrites.{raised, cut, CutLeaf, CutNode, loose_later}
 use Rattle.eb32_core.proofs.UnlinkCut.{Hanging, Cut, Raised, raised_is}

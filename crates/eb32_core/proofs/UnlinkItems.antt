@@ -9,7 +9,7 @@ use Rattle.eb_arena.specs.declared.links.Side.TheVariants as sides
 use Rattle.eb_arena.specs.Shape.{Tree, tip, fork, items, HasLeaf}
 use Rattle.eb_arena.specs.Way.{Step, from_left, from_right, plug}
 use Rattle.eb_dups.proofs.Distinct.{Distinct, part_distinct}
-use Rattle.eb32_core.proofs.UnlinkSteps.{paired}
+use Rattle.eb32_core.specs.Removal.{paired}
 
 -- the items of other entries
 abbrev pub others : ℕ → List KeyedItem → List KeyedItem

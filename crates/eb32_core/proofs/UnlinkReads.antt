@@ -1,19 +1,20 @@
 -- What is read before a leaf and the node above it go, and what the writes then make of the arena.
-use Rattle.std.proofs.Common.{◌≡◌, ℕ, ◌+◌, ◌<◌, ◌≤◌, length, refl, sym, ap, ◌∙◌, subst, arith}
+use Rattle.std.proofs.Common.{◌≡◌, ℕ, ◌+◌, ◌<◌, ◌≤◌, length, refl, sym, ap, ◌∙◌, subst, arith, eqb}
+use Rattle.std.specs.Prelude.{◌||◌}
 use Rattle.eb_arena.specs.declared.links.Side.TheVariants as sides
 use Rattle.eb_arena.specs.declared.links.Target.{Target}
 use Rattle.eb_arena.specs.declared.links.Target.TheVariants as targets
 use Rattle.eb_arena.specs.declared.links.Place.{Place}
 use Rattle.eb_arena.specs.declared.links.Place.TheVariants as places
 use Rattle.eb_arena.specs.declared.element.Element.{Element}
-use Rattle.eb_arena.specs.Links.{index_of, place_index, place_side}
+use Rattle.eb_arena.specs.Links.{index_of, is_nowhere, place_index, place_side}
 use Rattle.eb_arena.specs.Parts.{Parts, element_at, hung, linked}
 use Rattle.eb_arena.specs.Shape.{HasShape}
 use Rattle.eb_dups.proofs.Moves.{hung_count}
 use Rattle.eb32_walk.specs.Ends.{IsIn}
 use Rattle.eb32_core.specs.Removal.{Unlinks}
 use Rattle.eb32_core.proofs.UnlinkWrites.{loosened, raised, cut}
-use Rattle.eb32_core.proofs.UnlinkEntry.{beside, unlinked, unlinks, MayUnlink, may_unlink}
+use Rattle.eb32_core.proofs.UnlinkEntry.{beside, unlinked, unlinks, MayUnlink, may_unlink, own_node}
 
 -- what is read
 pub record Reads (a : Parts) (e : ℕ) (up : Element) (freed : ℕ) (sibling : Target) (above : Place) : Type 0 where
@@ -105,11 +106,22 @@ written a b c d z e freed leaf top sibling none above w =
     let v : d ≡ raised a e freed sibling above = w.third ∙ ap (λ t. hung t sibling above) y in
     w.fourth ∙ ap (λ t. linked t above sibling) v
 
-pub read_unlinks : {a b c d z : Parts} {e : ℕ} {up : Element} {freed : ℕ} {sibling leaf top : Target} {none above : Place} → Reads a e up freed sibling above → Writes a b c d z e freed leaf top sibling none above → Unlinks a z e freed
-read_unlinks {a = a} {b = b} {c = c} {d = d} {z = z} {e = e} {up = up} {freed = freed} {sibling = sibling} {leaf = leaf} {top = top} {none = none} {above = above} r w =
+-- what the writes made of the arena
+read_is : (a b c d z : Parts) (e : ℕ) (up : Element) (freed : ℕ) (sibling leaf top : Target) (none above : Place) → Reads a e up freed sibling above → Writes a b c d z e freed leaf top sibling none above → z ≡ unlinked a e
+read_is a b c d z e up freed sibling leaf top none above r w =
     let f : freed ≡ place_index (element_at a e).leaf_p = freed_at a e up freed sibling above r in
     let s : sibling ≡ beside a (element_at a e).leaf_p = sibling_at a e up freed sibling above r in
     let n : above ≡ (element_at a (place_index (element_at a e).leaf_p)).node_p = above_at a e up freed sibling above r in
-    let is : z ≡ unlinked a e = written a b c d z e freed leaf top sibling none above w ∙ (ap (λ x. cut a e x sibling above) f ∙ (ap (λ x. cut a e (place_index (element_at a e).leaf_p) x above) s ∙ ap (cut a e (place_index (element_at a e).leaf_p) (beside a (element_at a e).leaf_p)) n)) in
+    written a b c d z e freed leaf top sibling none above w ∙ (ap (λ x. cut a e x sibling above) f ∙ (ap (λ x. cut a e (place_index (element_at a e).leaf_p) x above) s ∙ ap (cut a e (place_index (element_at a e).leaf_p) (beside a (element_at a e).leaf_p)) n))
+
+pub read_own : {a b c d z : Parts} {e : ℕ} {up : Element} {freed : ℕ} {sibling leaf top : Target} {none above : Place} → Reads a e up freed sibling above → Writes a b c d z e freed leaf top sibling none above → is_nowhere (element_at z e).node_p ≡ (is_nowhere (element_at a e).node_p || eqb (place_index (element_at a e).leaf_p) e)
+read_own {a = a} {b = b} {c = c} {d = d} {z = z} {e = e} {up = up} {freed = freed} {sibling = sibling} {leaf = leaf} {top = top} {none = none} {above = above} r w =
+    let is : z ≡ unlinked a e = read_is a b c d z e up freed sibling leaf top none above r w in
+    ap (λ x. is_nowhere (element_at x e).node_p) is ∙ own_node a e r.shape r.in_tree r.below_node
+
+pub read_unlinks : {a b c d z : Parts} {e : ℕ} {up : Element} {freed : ℕ} {sibling leaf top : Target} {none above : Place} → Reads a e up freed sibling above → Writes a b c d z e freed leaf top sibling none above → Unlinks a z e freed
+read_unlinks {a = a} {b = b} {c = c} {d = d} {z = z} {e = e} {up = up} {freed = freed} {sibling = sibling} {leaf = leaf} {top = top} {none = none} {above = above} r w =
+    let f : freed ≡ place_index (element_at a e).leaf_p = freed_at a e up freed sibling above r in
+    let is : z ≡ unlinked a e = read_is a b c d z e up freed sibling leaf top none above r w in
     let x : Unlinks a (unlinked a e) e (place_index (element_at a e).leaf_p) = unlinks a e r.below_node in
     subst (λ y. Unlinks a y e freed) (sym is) (subst (Unlinks a (unlinked a e) e) (sym f) x)

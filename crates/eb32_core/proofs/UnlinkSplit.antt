@@ -8,9 +8,8 @@ use Rattle.eb_arena.specs.Way.{Step, from_left, from_right, plug}
 use Rattle.eb_arena.proofs.Ways.{part_split}
 use Rattle.eb_dups.proofs.Distinct.{Distinct, node_leaf, part_distinct}
 use Rattle.eb_dups.proofs.Added.{HasRoom, HasRoomAt}
-use Rattle.eb32_core.specs.Removal.{renamed}
+use Rattle.eb32_core.specs.Removal.{renamed, paired}
 use Rattle.eb32_core.proofs.UnlinkNames.{renamed_keys, renamed_leaf, renamed_below, renamed_other, renamed_index}
-use Rattle.eb32_core.proofs.UnlinkSteps.{paired}
 
 -- the tree g is the tree s without the leaf of entry e and node p
 pub record Shrinks (e p : ℕ) (s g : Tree) : Type 0 where

@@ -13,15 +13,7 @@ use Rattle.eb_arena.specs.Parts.{Parts, element_at, child, with_child}
 use Rattle.eb_arena.specs.Shape.{Tree, Stands, HasLeaf, HasNode}
 use Rattle.eb_arena.specs.Way.{Step, from_left, from_right, fill, Leads}
 use Rattle.eb_dups.proofs.Distinct.{NoShare, Distinct}
-
--- the step up from a side of a node
-abbrev pub step : Side → ℕ → ℤ → Tree → Step
-step sides.Left i b u = from_left i b u
-step sides.Right i b u = from_right i b u
-
--- a node with a tree at a side of it, and another tree at the other side
-abbrev pub paired : Side → ℕ → ℤ → Tree → Tree → Tree
-paired side i b t u = fill (step side i b u) t
+use Rattle.eb32_core.specs.Removal.{step, paired}
 
 pub pair_near_leaf : (side : Side) (i x : ℕ) (b : ℤ) (t u : Tree) → HasLeaf x t → HasLeaf x (paired side i b t u)
 pair_near_leaf sides.Left i x b t u h = inl h

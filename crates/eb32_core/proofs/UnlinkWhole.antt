@@ -1,5 +1,5 @@
 -- The arena without an entry's leaf and the node above it is what the contract says.
-use Rattle.std.proofs.Common.{◌≡◌, ℕ, ◌+◌, ◌<◌, ◌⊎◌, inl, inr, List, [], ◌∷◌, length, refl, sym, ap, ◌∙◌, subst, arith}
+use Rattle.std.proofs.Common.{◌≡◌, ℕ, ◌+◌, ◌<◌, ◌≤◌, ◌⊎◌, inl, inr, List, [], ◌∷◌, length, refl, sym, ap, ◌∙◌, subst, arith}
 use Rattle.std.specs.Prelude.{ℤ, Option, Some, None, IsSomeAnd}
 use Rattle.std.proofs.lemmas.Bool.{cases_eq}
 use Rattle.eb_arena.specs.declared.links.Side.{Side}
@@ -17,12 +17,12 @@ use Rattle.eb_arena.proofs.Frame.{kept}
 use Rattle.eb_dups.specs.Grown.{with_tree}
 use Rattle.eb_dups.proofs.Distinct.{NoShare, Distinct, distinct, roots_apart}
 use Rattle.eb_dups.proofs.Regrown.{top_leaf, top_node, plug_leaf, plug_node, tree_at, tree_other}
-use Rattle.eb32_core.specs.Planted.{SpinesIn}
-use Rattle.eb32_core.specs.Removal.{Unlinked}
-use Rattle.eb32_core.proofs.UnlinkSteps.{paired}
+use Rattle.eb_dups.specs.Spine.{spine_of}
+use Rattle.eb32_core.specs.Planted.{spine_in}
+use Rattle.eb32_core.specs.Removal.{Unlinked, paired}
 use Rattle.eb32_core.proofs.UnlinkSplit.{Shrinks, shrinks}
 use Rattle.eb32_core.proofs.UnlinkItems.{others, others_are}
-use Rattle.eb32_core.proofs.UnlinkSpines.{spines_shrink}
+use Rattle.eb32_core.proofs.Values.{value_shrinks}
 use Rattle.eb32_core.proofs.UnlinkCut.{Hanging, Cut}
 
 is_leaf_of : (t : Target) (i : ℕ) → (t ≡ targets.Leaf i) ⊎ (t ≡ targets.Leaf i → ⊥)
@@ -113,5 +113,6 @@ unlinked_by a z ts q w side e p k b part u sh is h c =
         unused = c.loose.unused;
       };
       items_are = sym (others_are w side e p k b u d) ∙ ap (λ o. others e (items_of o)) (sym is);
-      spines = λ m x. spines_shrink w side e p k m b u h.split (subst (SpinesIn m) is x);
+      pair = record { way = w; side = side; bit = b; key = k; other = u; was = is; is = refl };
+      spines = λ key. subst (λ o. spine_of key (plug w u) ≤ spine_in key o) (sym is) (value_shrinks w side e p k key b u h.split);
     }

@@ -126,7 +126,8 @@ emptied_uprooted a ts q e sh f al =
             (x.0, (subst (λ m. x.0 < m) (sym cl) x.1.0, still ts q x.0 t (HasNode i) al.tree_is (λ h. h) x.1.1));
       };
       items_are = sym (ap (λ o. filter (λ y. not (is_entry e y)) (items_of o)) al.tree_is ∙ no_items e (element_at a e).key);
-      spines = λ m h. tt;
+      loses = ((element_at a e).key, al.tree_is);
+      spines = λ key. omega arith;
     }
 
 pub clears : (a : Parts) (e : ℕ) → length a.elements ≤ place_index (element_at a e).leaf_p → Uproots a (cleared a e) e

@@ -1,8 +1,9 @@
 //! The forest: ordered lists of entries as trees in one arena.
 #![tactic(auto)]
 
-mod descent;
+mod branching;
 mod forest;
+mod heads;
 mod keyed;
 pub mod laws;
 mod planting;
@@ -14,5 +15,6 @@ mod tests;
 mod unlinking;
 
 pub use forest::Forest;
+pub use heads::head_of_key;
 pub use planting::plant;
 pub use removal::uproot;

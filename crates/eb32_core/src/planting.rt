@@ -8,10 +8,11 @@ ghost use Rattle.eb_arena.specs.declared.links.Place.TheVariants as places;
 ghost use Rattle.eb32_walk.specs.Search.{own_key};
 ghost use Rattle.eb_dups.specs.Cost.{ChangesFew};
 ghost use Rattle.eb32_core.specs.Landing.{IsLanding};
-ghost use Rattle.eb32_core.specs.Planted.{IsRoomy, Plants};
+ghost use Rattle.eb32_core.specs.Planted.{IsRoomy, Plants, Visits};
 
-use crate::descent::{landing, side_of, top_bit};
+use crate::branching::{side_of, top_bit};
 use eb_arena::{Arena, Link, Side, Up};
+use eb32_walk::descend;
 use eb_dups::{attach, insert_dup};
 use sched_base::Steps;
 use std::sync::ledger::Ledger;
@@ -54,8 +55,9 @@ fn branch_off(arena: &mut Arena, root: u32, part: Link, entry: u32)
     );
 }
 
-/// Puts an entry into a root, behind all items of at most its key. One step is one element that
-/// is visited on the way down.
+/// Puts an entry into a root, behind all items of at most its key, with the entry's own node. One
+/// step is one element that is visited: those on the way down to where the key stands or branches
+/// off, and then those of the right spine of the key.
 pub fn plant<L: Ledger>(arena: &mut Arena, root: u32, entry: u32, steps: &mut Steps<L>)
     requires roomy { IsRoomy arena.old root }
     requires root_exists { root < length arena.old.links }
@@ -63,13 +65,13 @@ pub fn plant<L: Ledger>(arena: &mut Arena, root: u32, entry: u32, steps: &mut St
     requires free { (element_at arena.old entry).leaf_p ≡ places.Nowhere }
     ensures plants { Plants arena.old arena.new root entry }
     ensures few { ChangesFew 3 entry arena.old arena.new }
+    ensures visits { Visits arena.old root (element_at arena.old entry).key steps.old steps.new }
 {
-    if arena.root(root).is_none() {
+    let key = arena.element(entry).key;
+    let Some(part) = descend(arena, root, key, steps) else {
         plant_first(arena, root, entry);
         return;
-    }
-    let key = arena.element(entry).key;
-    let part = landing(arena, root, key, steps);
+    };
     if arena.element(part.index()).key == key {
         insert_dup(arena, part, entry, steps);
         return;

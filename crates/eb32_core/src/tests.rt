@@ -135,7 +135,8 @@ fn four_equal() -> [Element; 4] {
 fn keeps_four_equal_keys(rt: HostRuntime) -> Result<(), Fail> {
     let forest = filled::<Brand>(rt.alloc(), Blank::new(1), &[5, 5, 5, 5])?.ok_or("filled")?;
     let arena = forest.arena();
-    assert_eq!(rt; arena.entries(), 4);
+    assert_eq!(rt; (arena.entries(), arena.roots()), (4, 1));
+    assert_eq!(rt; arena.root(0).number(), 5);
     for (index, element) in four_equal().iter().enumerate() {
         assert_eq!(rt; arena.element(index as u32), *element);
     }
@@ -165,20 +166,6 @@ fn keeps_keys_in_order(rt: HostRuntime) -> Result<(), Fail> {
     assert_eq!(rt; lookup_le(arena, 0, 5), Some(2));
     assert_eq!(rt; lookup_le(arena, 0, 3), None);
     assert_eq!(rt; lookup(arena, 0, 6), Some(1));
-    Ok(())
-}
-
-#[test]
-fn keeps_a_short_spine(rt: HostRuntime) -> Result<(), Fail> {
-    let keys = vec![in rt.alloc(); 9u32; 1024]?;
-    let forest = filled::<Brand>(rt.alloc(), Blank::new(1), keys.as_slice())?.ok_or("filled")?;
-    let arena = forest.arena();
-    assert!(rt; spine_nodes(arena) <= 10);
-    let entries = order(rt.alloc(), arena, 0)?;
-    assert_eq!(rt; entries.len(), 1024);
-    for (place, entry) in entries.iter().enumerate() {
-        assert_eq!(rt; *entry as usize, place);
-    }
     Ok(())
 }
 
@@ -415,5 +402,66 @@ fn answers_as_plain_lists_do(rt: HostRuntime) -> Result<(), Fail> {
         assert_eq!(rt; left.len(), 50000);
         assert!(rt; left == right);
     }
+    Ok(())
+}
+
+/// The elements of an arena.
+fn elements(alloc: Global, arena: &Arena) -> Result<Vec<Element>, AllocError> {
+    let mut elements = Vec::new(alloc);
+    for index in 0..arena.entries() {
+        elements.push(arena.element(index))?;
+    }
+    Ok(elements)
+}
+
+/// How many elements are other than they were, and brings these up to date.
+fn renewed(arena: &Arena, before: &mut [Element]) -> u32 {
+    let mut changed = 0u32;
+    for index in 0..arena.entries() {
+        let now = arena.element(index);
+        if (index as usize) < before.len() && before[index as usize] != now {
+            before[index as usize] = now;
+            changed = changed.saturating_add(1);
+        }
+    }
+    changed
+}
+
+/// Puts entries into root 0 under key 7, or takes them out. Whether each time the right spine has at
+/// most 10 nodes, and at most so many elements changed.
+fn are_brief(forest: &mut Forest, before: &mut [Element], entries: &[u32], most: u32) -> bool {
+    let mut brief = true;
+    for entry in entries {
+        toggle_all(forest, &[(0, *entry, 7)]);
+        let changed = renewed(forest.arena(), before);
+        brief = brief && changed <= most && spine_nodes(forest.arena()) <= 10;
+    }
+    brief
+}
+
+#[test]
+fn half_of_many_equal_keys_go_and_come_back(rt: HostRuntime) -> Result<(), Fail> {
+    let alloc = rt.alloc();
+    let mut forest = Forest::new(alloc, 1, 1024)?;
+    let mut before = elements(alloc, forest.arena())?;
+    let mut all = Vec::new(alloc);
+    let mut even = Vec::new(alloc);
+    let mut wanted = Vec::new(alloc);
+    for half in 0..512 {
+        all.push(half)?;
+        even.push(2 * half)?;
+        wanted.push(2 * half + 1)?;
+    }
+    for half in 0..512 {
+        all.push(512 + half)?;
+        wanted.push(2 * half)?;
+    }
+    assert!(rt; are_brief(&mut forest, before.as_mut_slice(), all.as_slice(), 3));
+    assert!(rt; are_brief(&mut forest, before.as_mut_slice(), even.as_slice(), 8));
+    assert!(rt; are_brief(&mut forest, before.as_mut_slice(), even.as_slice(), 3));
+    assert_eq!(rt;
+        order(alloc, forest.arena(), 0)?.as_slice(),
+        wanted.as_slice()
+    );
     Ok(())
 }

@@ -1,6 +1,6 @@
 -- The descent by key: what lies before and after the part that it has come to.
 use Rattle.std.proofs.Common.{◌≡◌, ◌≢◌, ℕ, ◌+◌, ◌*◌, ◌/◌, ◌%◌, ◌^◌, ◌<◌, ◌≤◌, List, [], ◌∷◌, ◌++◌, length, Bool, true, false, refl, sym, ap, ◌∙◌, subst, arith, append_assoc, eqb-true, eq-eqb}
-use Rattle.std.specs.Prelude.{pos, negsuc, Option, Some, None, ◌==◌, if◌then◌else◌}
+use Rattle.std.specs.Prelude.{pos, negsuc, Option, Some, None, IfSome, MatchOption, ◌==◌, if◌then◌else◌}
 use Rattle.std.specs.Option.{unwrap_or}
 use Rattle.std.proofs.lemmas.List.{append-nil}
 use Rattle.std.proofs.lemmas.Bool.{eqb-false}
@@ -14,25 +14,16 @@ use Rattle.eb_arena.specs.declared.links.Place.TheVariants as places
 use Rattle.eb_arena.specs.declared.element.Element.{Element}
 use Rattle.eb_arena.specs.Links.{index_of, side_number}
 use Rattle.eb_arena.specs.Parts.{Parts, element_at, link_at, child}
-use Rattle.eb_arena.specs.Shape.{Tree, tip, fork, items, items_of, Keys, IsBit, Stands, Split, DividesAt, Equals, IsRoot, root_place, HasShape, list_of}
+use Rattle.eb_arena.specs.Shape.{Tree, tip, fork, items, items_of, Keys, IsBit, Stands, Split, DividesAt, Equals, IsRoot, root_place, HasShape, list_of, list_below}
 use Rattle.eb_arena.specs.Way.{Step, from_left, from_right, plug, before, after, Leads}
 use Rattle.eb_arena.proofs.Trees.{Has, keys_at, keys_map, bit_rank, tree_rank, falls_left, falls_right, lt_by_div, div_le_div}
 use Rattle.eb_arena.proofs.Reading.{list_of_is}
 use Rattle.eb_arena.proofs.Ways.{part_split, leaf_key}
 use Rattle.eb_arena.specs.Shape.{AllKeys}
-use Rattle.eb32_walk.specs.Search.{Fits, Narrow, IsFound, own_key, turn_of}
+use Rattle.eb32_walk.specs.Search.{Fits, Narrow, IsFound, IsBare, Reaches, Stops, own_key, turn_of}
 use Rattle.eb_arena.proofs.Keyed.{all-append, all_items}
 use Rattle.eb32_walk.proofs.Climbing.{greater}
 use Rattle.eb32_walk.proofs.Down.{target_rank, target_rank_is, not_nothing}
-
-start_at : (a : Parts) (q key : ℕ) (o : Option Tree) → IsRoot a q o → (link_at a q ≡ targets.Nothing → ⊥) → list_of a q ≡ items_of o → Narrow a q key (link_at a q)
-start_at a q key None h n e = absurd (n h)
-start_at a q key (Some t) h n e =
-    record { place = root_place a q; way = []; tree = t; leads = refl; stands = h.0; split = h.1; list_is = e ∙ sym (append-nil (items t)); low = tt; high = tt; fits = tt; whole = h }
-
-pub narrow_start : (a : Parts) (q key : ℕ) (part : Target) → HasShape a → q < length a.links → part ≡ link_at a q → (part ≡ targets.Nothing → ⊥) → Narrow a q key part
-narrow_start a q key part h f e n =
-    subst (Narrow a q key) (sym e) (start_at a q key (h.0 q) (h.1.roots q f) (λ x. n (e ∙ x)) (list_of_is a q (h.0 q) (h.1.roots q f)))
 
 -- what a turn at a bit says of the key
 pub record TurnIs (b own key : ℕ) (side : Side) : Type 0 where
@@ -75,11 +66,12 @@ own_above a b i l r target place d s p =
     keys_at (λ x. x / 2 ^ b / 2 ≡ d.q) (fork i (pos b) l r) (element_at a i).key (above_bit b l r d) k
 
 -- one turn of the descent
-pub record Turned (a : Parts) (q key : ℕ) (part next : Target) : Type 0 where
+pub record Turned (a : Parts) (q key : ℕ) (part next : Target) (steps : ℕ) : Type 0 where
   pub narrow : Narrow a q key next
+  pub longer : length narrow.way ≡ steps + 1
   pub falls : target_rank a next < target_rank a part
 
-turn_left : (a : Parts) (q key i b : ℕ) (l r : Tree) (place : Place) (w : List Step) → Stands a (targets.Node i) place (fork i (pos b) l r) → Leads a q place w → Split (plug w (fork i (pos b) l r)) → list_of a q ≡ before w ++ (items (fork i (pos b) l r) ++ after w) → AllKeys (λ x. x < key) (before w) → AllKeys (λ x. key < x) (after w) → Fits key w → IsRoot a q (Some (plug w (fork i (pos b) l r))) → TurnIs b (element_at a i).key key sides.Left → Turned a q key (targets.Node i) (element_at a i).left
+turn_left : (a : Parts) (q key i b : ℕ) (l r : Tree) (place : Place) (w : List Step) → Stands a (targets.Node i) place (fork i (pos b) l r) → Leads a q place w → Split (plug w (fork i (pos b) l r)) → list_of a q ≡ before w ++ (items (fork i (pos b) l r) ++ after w) → AllKeys (λ x. x < key) (before w) → AllKeys (λ x. key < x) (after w) → Fits key w → IsRoot a q (Some (plug w (fork i (pos b) l r))) → TurnIs b (element_at a i).key key sides.Left → Turned a q key (targets.Node i) (element_at a i).left (length w)
 turn_left a q key i b l r place w s h p g low high ft wh t =
     let k : Split (fork i (pos b) l r) = part_split w (fork i (pos b) l r) p in
     let d : DividesAt b l r = k.2 in
@@ -100,10 +92,11 @@ turn_left a q key i b l r place w s h p g low high ft wh t =
         fits = ((d.q, (e, d.right)), ft);
         whole = wh;
       };
+      longer = omega arith;
       falls = let x : target_rank a (element_at a i).left ≡ tree_rank l = target_rank_is a _ _ l s.4 in let y : tree_rank l < bit_rank (pos b) = falls_left i (pos b) l r k in let z : bit_rank (element_at a i).bit ≡ bit_rank (pos b) = ap bit_rank s.3 in omega arith;
     }
 
-turn_right : (a : Parts) (q key i b : ℕ) (l r : Tree) (place : Place) (w : List Step) → Stands a (targets.Node i) place (fork i (pos b) l r) → Leads a q place w → Split (plug w (fork i (pos b) l r)) → list_of a q ≡ before w ++ (items (fork i (pos b) l r) ++ after w) → AllKeys (λ x. x < key) (before w) → AllKeys (λ x. key < x) (after w) → Fits key w → IsRoot a q (Some (plug w (fork i (pos b) l r))) → TurnIs b (element_at a i).key key sides.Right → Turned a q key (targets.Node i) (element_at a i).right
+turn_right : (a : Parts) (q key i b : ℕ) (l r : Tree) (place : Place) (w : List Step) → Stands a (targets.Node i) place (fork i (pos b) l r) → Leads a q place w → Split (plug w (fork i (pos b) l r)) → list_of a q ≡ before w ++ (items (fork i (pos b) l r) ++ after w) → AllKeys (λ x. x < key) (before w) → AllKeys (λ x. key < x) (after w) → Fits key w → IsRoot a q (Some (plug w (fork i (pos b) l r))) → TurnIs b (element_at a i).key key sides.Right → Turned a q key (targets.Node i) (element_at a i).right (length w)
 turn_right a q key i b l r place w s h p g low high ft wh t =
     let k : Split (fork i (pos b) l r) = part_split w (fork i (pos b) l r) p in
     let d : DividesAt b l r = k.2 in
@@ -124,10 +117,11 @@ turn_right a q key i b l r place w s h p g low high ft wh t =
         whole = wh;
         high = high;
       };
+      longer = omega arith;
       falls = let x : target_rank a (element_at a i).right ≡ tree_rank r = target_rank_is a _ _ r s.5 in let y : tree_rank r < bit_rank (pos b) = falls_right i (pos b) l r k in let z : bit_rank (element_at a i).bit ≡ bit_rank (pos b) = ap bit_rank s.3 in omega arith;
     }
 
-turn_by : (a : Parts) (q key i : ℕ) (side : Side) (place : Place) (w : List Step) (t : Tree) → Stands a (targets.Node i) place t → Leads a q place w → Split (plug w t) → list_of a q ≡ before w ++ (items t ++ after w) → AllKeys (λ x. x < key) (before w) → AllKeys (λ x. key < x) (after w) → Fits key w → IsRoot a q (Some (plug w t)) → turn_of (element_at a i).key (element_at a i).bit key ≡ Some side → Turned a q key (targets.Node i) (child side (element_at a i))
+turn_by : (a : Parts) (q key i : ℕ) (side : Side) (place : Place) (w : List Step) (t : Tree) → Stands a (targets.Node i) place t → Leads a q place w → Split (plug w t) → list_of a q ≡ before w ++ (items t ++ after w) → AllKeys (λ x. x < key) (before w) → AllKeys (λ x. key < x) (after w) → Fits key w → IsRoot a q (Some (plug w t)) → turn_of (element_at a i).key (element_at a i).bit key ≡ Some side → Turned a q key (targets.Node i) (child side (element_at a i)) (length w)
 turn_by a q key i side place w (tip e k) s h p g low high ft wh t = let x : targets.Node i ≡ targets.Leaf e = s.0 in cc
 turn_by a q key i side place w (fork j (negsuc n) l r) s h p g low high ft wh t =
     let e : i ≡ j = ap index_of s.0 in
@@ -145,13 +139,12 @@ turn_by a q key i sides.Right place w (fork j (pos b) l r) s h p g low high ft w
     let is : TurnIs b (element_at a i).key key sides.Right = turn_is (element_at a i).key b key sides.Right (sym (ap (λ z. turn_of (element_at a i).key z key) bit) ∙ t) in
     turn_right a q key i b l r place w (subst (λ m. Stands a (targets.Node i) place (fork m (pos b) l r)) e s) h (subst (λ m. Split (plug w (fork m (pos b) l r))) e p) g low high ft (subst (λ m. IsRoot a q (Some (plug w (fork m (pos b) l r)))) e wh) is
 
-pub narrow_turn : (a : Parts) (q key i : ℕ) (part next : Target) (e : Element) (side : Side) → Narrow a q key part → targets.Node i ≡ part → e ≡ element_at a i → Some side ≡ turn_of e.key e.bit key → next ≡ child side e → Turned a q key part next
+pub narrow_turn : (a : Parts) (q key i : ℕ) (part next : Target) (e : Element) (side : Side) (n : Narrow a q key part) → targets.Node i ≡ part → e ≡ element_at a i → Some side ≡ turn_of e.key e.bit key → next ≡ child side e → Turned a q key part next (length n.way)
 narrow_turn a q key i part next e side n is el t nx =
-    let m : Narrow a q key (targets.Node i) = subst (Narrow a q key) (sym is) n in
     let s : turn_of (element_at a i).key (element_at a i).bit key ≡ Some side = ap (λ z. turn_of z.key z.bit key) (sym el) ∙ sym t in
-    let u : Turned a q key (targets.Node i) (child side (element_at a i)) = turn_by a q key i side m.place m.way m.tree m.stands m.leads m.split m.list_is m.low m.high m.fits m.whole s in
-    let v : Turned a q key part (child side (element_at a i)) = subst (λ z. Turned a q key z (child side (element_at a i))) is u in
-    subst (λ z. Turned a q key part z) (sym (nx ∙ ap (child side) el)) v
+    let u : Turned a q key (targets.Node i) (child side (element_at a i)) (length n.way) = turn_by a q key i side n.place n.way n.tree (subst (λ z. Stands a z n.place n.tree) (sym is) n.stands) n.leads n.split n.list_is n.low n.high n.fits n.whole s in
+    let v : Turned a q key part (child side (element_at a i)) (length n.way) = subst (λ z. Turned a q key z (child side (element_at a i)) (length n.way)) is u in
+    subst (λ z. Turned a q key part z (length n.way)) (sym (nx ∙ ap (child side) el)) v
 
 -- what a node on the way down has
 pub record NodeHas (a : Parts) (i : ℕ) : Type 0 where
@@ -228,18 +221,54 @@ found_from : (a : Parts) (q key : ℕ) (target : Target) (n : Narrow a q key tar
 found_from a q key target n l =
     record { place = n.place; way = n.way; tree = n.tree; leads = n.leads; stands = n.stands; split = n.split; list_is = n.list_is; low = n.low; high = n.high; same = l.same; less = l.less; more = l.more }
 
--- the descent ends at a node where there is no turn
-pub found_node : (a : Parts) (q key i : ℕ) (part : Target) (e : Element) → Narrow a q key part → targets.Node i ≡ part → e ≡ element_at a i → None ≡ turn_of e.key e.bit key → IsFound a q key part
-found_node a q key i part e n is el t =
-    let m : Narrow a q key (targets.Node i) = subst (Narrow a q key) (sym is) n in
-    let s : turn_of (element_at a i).key (element_at a i).bit key ≡ None = ap (λ z. turn_of z.key z.bit key) (sym el) ∙ sym t in
-    subst (IsFound a q key) is (found_from a q key (targets.Node i) m (node_lies a key i m.place m.tree m.stands (part_split m.way m.tree m.split) s))
+-- where there is no turn at a node, or a leaf, the descent stops
+pub stops_node : (a : Parts) (key i : ℕ) (part : Target) (e : Element) → targets.Node i ≡ part → e ≡ element_at a i → None ≡ turn_of e.key e.bit key → Stops a key part
+stops_node a key i part e is el t = subst (Stops a key) is (ap (λ z. turn_of z.key z.bit key) (sym el) ∙ sym t)
 
--- or at a leaf
-pub found_leaf : (a : Parts) (q key : ℕ) (part : Target) → Narrow a q key part → ((i : ℕ) → part ≡ targets.Node i → ⊥) → IsFound a q key part
-found_leaf a q key targets.Nothing n h = absurd (not_nothing a n.place n.tree n.stands)
-found_leaf a q key (targets.Leaf i) n h = found_from a q key (targets.Leaf i) n (leaf_lies a key i n.place n.tree n.stands)
-found_leaf a q key (targets.Node i) n h = absurd (h i refl)
+pub stops_leaf : (a : Parts) (key : ℕ) (part : Target) → (part ≡ targets.Nothing → ⊥) → ((i : ℕ) → part ≡ targets.Node i → ⊥) → Stops a key part
+stops_leaf a key targets.Nothing n h = n refl
+stops_leaf a key (targets.Leaf i) n h = tt
+stops_leaf a key (targets.Node i) n h = absurd (h i refl)
+
+-- how far the descent is
+pub record Descends (a : Parts) (q key old now : ℕ) (part : Target) : Type 0 where
+  pub narrow : Narrow a q key part
+  pub visits : now ≡ old + length narrow.way
+
+start_visits : (a : Parts) (q key old : ℕ) (o : Option Tree) → IsRoot a q o → (link_at a q ≡ targets.Nothing → ⊥) → list_of a q ≡ items_of o → Descends a q key old old (link_at a q)
+start_visits a q key old None h n e = absurd (n h)
+start_visits a q key old (Some t) h n e =
+    record {
+      narrow = record { place = root_place a q; way = []; tree = t; leads = refl; stands = h.0; split = h.1; list_is = e ∙ sym (append-nil (items t)); low = tt; high = tt; fits = tt; whole = h };
+      visits = omega arith;
+    }
+
+pub descends_start : (a : Parts) (q key old : ℕ) (part : Target) → HasShape a → q < length a.links → part ≡ link_at a q → (part ≡ targets.Nothing → ⊥) → Descends a q key old old part
+descends_start a q key old part h f e n =
+    subst (Descends a q key old old) (sym e) (start_visits a q key old (h.0 q) (h.1.roots q f) (λ x. n (e ∙ x)) (list_of_is a q (h.0 q) (h.1.roots q f)))
+
+pub descends_turn : (a : Parts) (q key old now new i : ℕ) (part next : Target) (e : Element) (side : Side) (d : Descends a q key old now part) → targets.Node i ≡ part → e ≡ element_at a i → Some side ≡ turn_of e.key e.bit key → next ≡ child side e → new ≡ now + 1 → Descends a q key old new next
+descends_turn a q key old now new i part next e side d is el t nx k =
+    let u : Turned a q key part next (length d.narrow.way) = narrow_turn a q key i part next e side d.narrow is el t nx in
+    record { narrow = u.narrow; visits = omega (arith, u.longer, d.visits, k) }
+
+pub reaches : (a : Parts) (q key old now new : ℕ) (part : Target) (d : Descends a q key old now part) → Stops a key part → new ≡ now + 1 → Reaches a q key old new part
+reaches a q key old now new part d s k = record { narrow = d.narrow; stops = s; visits = omega (arith, d.visits, k) }
+
+-- what a descent finds
+pub reached_found : (a : Parts) (q key old new : ℕ) (part : Target) → Reaches a q key old new part → IsFound a q key part
+reached_found a q key old new targets.Nothing r = absurd r.stops
+reached_found a q key old new (targets.Leaf i) r = found_from a q key (targets.Leaf i) r.narrow (leaf_lies a key i r.narrow.place r.narrow.tree r.narrow.stands)
+reached_found a q key old new (targets.Node i) r =
+    found_from a q key (targets.Node i) r.narrow (node_lies a key i r.narrow.place r.narrow.tree r.narrow.stands (part_split r.narrow.way r.narrow.tree r.narrow.split) r.stops)
+
+pub found_or_bare : (a : Parts) (q key old new : ℕ) (o : Option Target) → MatchOption o (IsBare a q old new) (Reaches a q key old new) → MatchOption o (list_of a q ≡ []) (IsFound a q key)
+found_or_bare a q key old new None h = ap (list_below a) h.empty
+found_or_bare a q key old new (Some part) h = reached_found a q key old new part h
+
+pub reached_or_bare : (a : Parts) (q key old new : ℕ) → old ≡ 0 → (o : Option Target) → MatchOption o (IsBare a q old new) (Reaches a q key old new) → IfSome o (λ part. (taken : ℕ) × Reaches a q key 0 taken part)
+reached_or_bare a q key old new z None h = tt
+reached_or_bare a q key old new z (Some part) h = (new, subst (λ m. Reaches a q key m new part) z h)
 
 -- a part that was come to is not nothing
 pub narrow_some : (a : Parts) (q key : ℕ) (part : Target) → Narrow a q key part → part ≡ targets.Nothing → ⊥

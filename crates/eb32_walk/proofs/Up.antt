@@ -200,7 +200,3 @@ right_by_way : (a : Parts) (q : ℕ) (place : Place) (w : List Step) → Leads a
 right_by_way a q place [] h e = let x : sides.Left ≡ sides.Right = sym (ap place_side h) ∙ e in cc
 right_by_way a q place (from_left i b r ∷ w) h e = let x : place_index place ≡ i = ap place_index h.0 in let y : i < length a.elements = h.1 in omega arith
 right_by_way a q place (from_right i b l ∷ w) h e = let x : place_index place ≡ i = ap place_index h.0 in let y : i < length a.elements = h.1 in omega arith
-
--- what hangs on a root hangs at its left, so a right side is a node's
-pub right_below : (a : Parts) (place : Place) → IsPlace a place → place_side place ≡ sides.Right → place_index place < length a.elements
-right_below a place h e = right_by_way a h.root place h.way h.leads e

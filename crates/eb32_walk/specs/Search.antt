@@ -1,11 +1,12 @@
 -- What a descent by key finds (docs/TREES.md, "Look-ups").
-use Rattle.std.specs.Prelude.{◌+◌, ◌*◌, [], ◌∷◌, ◌≡◌, ℕ, ◌/◌, ◌%◌, ◌^◌, ◌<◌, ◌==◌, if◌then◌else◌, ℤ, pos, negsuc, List, ◌++◌, Option, Some, None}
+use Rattle.std.specs.Prelude.{◌+◌, ◌*◌, [], ◌∷◌, ◌≡◌, ℕ, ◌/◌, ◌%◌, ◌^◌, ◌<◌, ◌==◌, if◌then◌else◌, ℤ, pos, negsuc, List, ◌++◌, length, Option, Some, None}
 use Rattle.eb_arena.specs.declared.links.Side.{Side}
 use Rattle.eb_arena.specs.declared.links.Side.TheVariants as sides
 use Rattle.eb_arena.specs.declared.links.Target.{Target}
+use Rattle.eb_arena.specs.declared.links.Target.TheVariants as targets
 use Rattle.eb_arena.specs.declared.links.Place.{Place}
 use Rattle.eb_arena.specs.Links.{index_of}
-use Rattle.eb_arena.specs.Parts.{Parts, element_at}
+use Rattle.eb_arena.specs.Parts.{Parts, element_at, link_at}
 use Rattle.eb_arena.specs.Shape.{Tree, items, Keys, AllKeys, Stands, Split, IsRoot, list_of}
 use Rattle.eb_arena.specs.Way.{Step, from_left, from_right, plug, before, after, Leads}
 
@@ -55,3 +56,20 @@ pub record Narrow (a : Parts) (root key : ℕ) (target : Target) : Type 0 where
   pub high : AllKeys (λ x. key < x) (after way)
   pub fits : Fits key way
   pub whole : IsRoot a root (Some (plug way tree))
+
+-- no node turns the key further down from here
+abbrev pub Stops : Parts → ℕ → Target → Type 0
+Stops a key targets.Nothing = ⊥
+Stops a key (targets.Leaf i) = Unit {0}
+Stops a key (targets.Node i) = turn_of (element_at a i).key (element_at a i).bit key ≡ None
+
+-- a descent came to the part where the key turns no further down; it visited each node of the way and the part
+pub record Reaches (a : Parts) (root key old new : ℕ) (target : Target) : Type 0 where
+  pub narrow : Narrow a root key target
+  pub stops : Stops a key target
+  pub visits : new ≡ old + (length narrow.way + 1)
+
+-- a root is empty, and nothing was visited
+pub record IsBare (a : Parts) (root old new : ℕ) : Type 0 where
+  pub empty : link_at a root ≡ targets.Nothing
+  pub none : new ≡ old

@@ -21,22 +21,18 @@ pub(crate) fn end_below(arena: &Arena, link: Link, side: Side) -> u32
     part.index()
 }
 
-/// The entry next to a place on a side of it; none where the place is at that end of the tree. What
-/// hangs on a root hangs at its left side, so only a climb on the left can come to a root and go on.
+/// The entry next to a place on a side of it; none where the place is at that end of the tree.
 pub(crate) fn neighbour(arena: &Arena, up: Up, side: Side) -> Option<u32>
     requires { IsPlace arena.now up }
     ensures answer { AtPlace arena.now up (λ w. result ≡ end_entry (opposite side) (beyond side w)) }
     ensures in_tree { IfSome result (IsIn arena.now) }
 {
     let mut place = up;
-    while place.side() == side {
-        if side == Side::Left && place.index() >= arena.entries() {
-            return None;
+    while place.index() < arena.entries() {
+        if place.side() != side {
+            return Some(end_below(arena, arena.beside(place), side.opposite()));
         }
         place = arena.above(place);
     }
-    if place.index() >= arena.entries() {
-        return None;
-    }
-    Some(end_below(arena, arena.beside(place), side.opposite()))
+    None
 }

@@ -8,5 +8,5 @@ mod search;
 mod tests;
 mod walks;
 
-pub use search::{lookup, lookup_ge, lookup_le, turn};
+pub use search::{descend, lookup, lookup_ge, lookup_le, seek};
 pub use walks::{first, last, next, next_dup, next_unique, prev, prev_dup, prev_unique};

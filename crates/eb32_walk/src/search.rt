@@ -1,17 +1,20 @@
 //! Look-ups by key.
 
-ghost use Rattle.std.specs.Prelude.{◌≡◌, ◌<◌, ◌==◌, nat_le, [], filter, length, IfSome, MatchOption};
+ghost use Rattle.std.specs.Prelude.{◌≡◌, ℕ, ◌<◌, ◌==◌, nat_le, [], filter, length, IfSome, MatchOption};
 ghost use Rattle.eb_arena.specs.Shape.{HasShape, IsBit, list_of};
 ghost use Rattle.sched_base.specs.KeyedList.{first_entry};
 ghost use Rattle.eb32_walk.specs.Ends.{IsIn, IsTree, last_entry};
-ghost use Rattle.eb32_walk.specs.Search.{IsFound, own_key, turn_of};
+ghost use Rattle.eb32_walk.specs.Search.{IsBare, IsFound, Reaches, own_key, turn_of};
 
 use crate::ends::{end_below, neighbour};
 use eb_arena::{Arena, Element, Link, Side};
+use sched_base::Steps;
+use std::marker::Brand;
+use std::sync::ledger::{Blank, Ledger};
 
 /// The side of a node to which the key belongs; none where it differs from the node's keys above
 /// the node's bit, or where the node's keys are equal.
-pub fn turn(node: &Element, key: u32) -> Option<Side>
+fn turn(node: &Element, key: u32) -> Option<Side>
     requires { IsBit node.now.bit }
     ensures { result ≡ turn_of node.now.key node.now.bit key }
 {
@@ -30,26 +33,53 @@ pub fn turn(node: &Element, key: u32) -> Option<Side>
     }
 }
 
-/// Goes down from a root as long as the key agrees with what is found. All items before the part
-/// that it ends at have smaller keys, and all items after it have greater ones; none where the
-/// root's list is empty.
-fn seek(arena: &Arena, root: u32, key: u32) -> Option<Link>
+/// Goes down from a root as long as the key agrees with what is found. None where the root is empty.
+/// One step is one element that is visited: those of the nodes on the way, and that of the part at
+/// which the descent ends.
+pub fn descend<L: Ledger>(arena: &Arena, root: u32, key: u32, steps: &mut Steps<L>) -> Option<Link>
     requires shape { HasShape arena.now }
     requires exists { root < length arena.now.links }
-    ensures { MatchOption result (list_of arena.now root ≡ []) (IsFound arena.now root key) }
+    ensures { MatchOption result (IsBare arena.now root steps.old steps.new) (Reaches arena.now root key steps.old steps.new) }
 {
     let mut part = arena.root(root);
     if part.is_none() {
         return None;
     }
     while !part.is_leaf() {
+        steps.tick();
         let node = arena.element(part.index());
         let Some(side) = turn(&node, key) else {
             return Some(part);
         };
         part = node.child(side);
     }
+    steps.tick();
     Some(part)
+}
+
+/// The descent, with a counter of its own.
+fn descend_uncounted<L: Ledger>(arena: &Arena, root: u32, key: u32, blank: Blank) -> Option<Link>
+    requires name { blank.name ≡ L.name }
+    requires parts { blank.parts ≡ L.parts }
+    requires some { 0 < L.parts }
+    requires shape { HasShape arena.now }
+    requires exists { root < length arena.now.links }
+    ensures found { MatchOption result (list_of arena.now root ≡ []) (IsFound arena.now root key) }
+    ensures reached { IfSome result (λ part. (taken : ℕ) × Reaches arena.now root key 0 taken part) }
+{
+    let mut steps = Steps::<L>::new(blank);
+    descend(arena, root, key, &mut steps)
+}
+
+/// The part at which the descent by a key ends. All items before it have smaller keys, and all items
+/// after it have greater ones; none where the root's list is empty. Nothing is counted.
+pub fn seek(arena: &Arena, root: u32, key: u32) -> Option<Link>
+    requires shape { HasShape arena.now }
+    requires exists { root < length arena.now.links }
+    ensures found { MatchOption result (list_of arena.now root ≡ []) (IsFound arena.now root key) }
+    ensures reached { IfSome result (λ part. (taken : ℕ) × Reaches arena.now root key 0 taken part) }
+{
+    descend_uncounted::<Brand>(arena, root, key, Blank::new(1))
 }
 
 /// The key of the entry whose leaf or node is the part.

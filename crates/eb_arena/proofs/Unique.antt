@@ -10,7 +10,7 @@ use Rattle.eb_arena.specs.declared.links.Target.TheVariants as targets
 use Rattle.eb_arena.specs.declared.links.Place.{Place}
 use Rattle.eb_arena.specs.declared.links.Place.TheVariants as places
 use Rattle.eb_arena.specs.Links.{index_of, place_index, place_side}
-use Rattle.eb_arena.specs.Parts.{Parts, element_at}
+use Rattle.eb_arena.specs.Parts.{Parts, element_at, link_at}
 use Rattle.eb_arena.specs.Shape.{Tree, tip, fork, items_of, Stands, HasLeaf, HasNode, IsRoot, root_place, Shape, HasShape, InSome, list_of}
 use Rattle.eb_arena.specs.Way.{Step, from_left, from_right, plug, before, after, Leads}
 use Rattle.eb_arena.specs.Laws.{LeafTells, NodeTells, OnePosition}
@@ -154,3 +154,33 @@ node_tells a place i (fork j b l r) s =
 
 pub tells : (a : Parts) (place : Place) (i : ℕ) (t : Tree) → (Stands a (targets.Leaf i) place t → LeafTells a place i t) × (Stands a (targets.Node i) place t → NodeTells a place i t)
 tells a place i t = (leaf_tells a place i t, node_tells a place i t)
+
+-- a part of a root's tree, and the way up from it
+pub record PartAt (a : Parts) (q : ℕ) (w : List Step) (t : Tree) : Type 0 where
+  pub target : Target
+  pub place : Place
+  pub stands : Stands a target place t
+  pub leads : Leads a q place w
+
+pub part_at : (a : Parts) (q : ℕ) (w : List Step) (t : Tree) → Stands a (link_at a q) (root_place a q) (plug w t) → PartAt a q w t
+part_at a q [] t s = record { target = link_at a q; place = root_place a q; stands = s; leads = refl }
+part_at a q (from_left i b r ∷ w) t s =
+    let p : PartAt a q w (fork i b t r) = part_at a q w (fork i b t r) s in
+    let h : Stands a p.target p.place (fork i b t r) = p.stands in
+    record { target = (element_at a i).left; place = places.Under i sides.Left; stands = h.4; leads = (refl, h.1, h.3, h.5, subst (λ o. Leads a q o w) (sym h.2) p.leads) }
+part_at a q (from_right i b l ∷ w) t s =
+    let p : PartAt a q w (fork i b l t) = part_at a q w (fork i b l t) s in
+    let h : Stands a p.target p.place (fork i b l t) = p.stands in
+    record { target = (element_at a i).right; place = places.Under i sides.Right; stands = h.5; leads = (refl, h.1, h.3, h.4, subst (λ o. Leads a q o w) (sym h.2) p.leads) }
+
+-- the way up from a node
+node_leads : (a : Parts) (ts : ℕ → Option Tree) (q i : ℕ) (b : ℤ) (w : List Step) (l r : Tree) → Shape a ts → q < length a.links → ts q ≡ Some (plug w (fork i b l r)) → Leads a q (element_at a i).node_p w
+node_leads a ts q i b w l r h f e =
+    let root : IsRoot a q (Some (plug w (fork i b l r))) = subst (IsRoot a q) e (h.roots q f) in
+    let p : PartAt a q w (fork i b l r) = part_at a q w (fork i b l r) root.0 in
+    let s : Stands a p.target p.place (fork i b l r) = p.stands in
+    subst (λ o. Leads a q o w) (sym s.2) p.leads
+
+pub nodes_once : (a : Parts) (ts : ℕ → Option Tree) (q r i : ℕ) (b c : ℤ) (w v : List Step) (left right low high : Tree) → Shape a ts → q < length a.links → r < length a.links → ts q ≡ Some (plug w (fork i b left right)) → ts r ≡ Some (plug v (fork i c low high)) → (q ≡ r) × (w ≡ v)
+nodes_once a ts q r i b c w v left right low high h f g x y =
+    one_way a q r (element_at a i).node_p w v (node_leads a ts q i b w left right h f x) (node_leads a ts r i c v low high h g y)

@@ -1,5 +1,5 @@
 -- What holds of every arena that has the shape (docs/TREES.md, "Laws").
-use Rattle.std.specs.Prelude.{◌≡◌, ◌≢◌, ℕ, ◌<◌, List, ◌∷◌, ◌++◌, length, Option}
+use Rattle.std.specs.Prelude.{◌≡◌, ◌≢◌, ℕ, ◌<◌, List, ◌∷◌, ◌++◌, length, ℤ, Option, Some}
 use Rattle.sched_base.specs.KeyedList.{KeyedItem, IsRising}
 use Rattle.eb_arena.specs.declared.links.Side.TheVariants as sides
 use Rattle.eb_arena.specs.declared.links.Target.{Target}
@@ -8,7 +8,7 @@ use Rattle.eb_arena.specs.declared.links.Place.{Place}
 use Rattle.eb_arena.specs.declared.links.Place.TheVariants as places
 use Rattle.eb_arena.specs.Parts.{Parts, element_at, hung}
 use Rattle.eb_arena.specs.Shape.{Tree, tip, fork, items_of, Stands, Shape, HasShape, InSome, HasLeaf, HasNode, list_of}
-use Rattle.eb_arena.specs.Way.{Step, Leads}
+use Rattle.eb_arena.specs.Way.{Step, plug, Leads}
 
 -- what the element of a leaf tells of the tree
 pub record LeafTells (a : Parts) (place : Place) (i : ℕ) (t : Tree) : Type 0 where
@@ -79,6 +79,11 @@ pub record OnePosition (q r k m : ℕ) (xs ys us vs : List KeyedItem) : Type 0 w
 abbrev pub EntriesStandOnce : Type 0
 EntriesStandOnce =
     (a : Parts) (q r e k m : ℕ) (xs ys us vs : List KeyedItem) → HasShape a → q < length a.links → r < length a.links → list_of a q ≡ xs ++ record { key = k; entry = e } ∷ ys → list_of a r ≡ us ++ record { key = m; entry = e } ∷ vs → OnePosition q r k m xs ys us vs
+
+-- a node stands at one place of one root's tree
+abbrev pub NodesStandOnce : Type 0
+NodesStandOnce =
+    (a : Parts) (ts : ℕ → Option Tree) (q r i : ℕ) (b c : ℤ) (w v : List Step) (left right low high : Tree) → Shape a ts → q < length a.links → r < length a.links → ts q ≡ Some (plug w (fork i b left right)) → ts r ≡ Some (plug v (fork i c low high)) → (q ≡ r) × (w ≡ v)
 
 -- what is in a tree has a link up
 abbrev pub PartsInTreesHang : Type 0

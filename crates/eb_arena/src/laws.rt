@@ -1,7 +1,7 @@
 //! What holds of every arena that has the shape, as functions that do nothing and whose contracts
 //! are the laws.
 
-ghost use Rattle.eb_arena.specs.Laws.{ElementsTell, ListsAreDetermined, ChangesElsewhereKeep, PartsMoveWhole, PlacesHaveOneWay, EntriesStandOnce, PartsInTreesHang, ListsAreOrdered};
+ghost use Rattle.eb_arena.specs.Laws.{ElementsTell, ListsAreDetermined, ChangesElsewhereKeep, PartsMoveWhole, PlacesHaveOneWay, EntriesStandOnce, NodesStandOnce, PartsInTreesHang, ListsAreOrdered};
 
 /// Reading one element tells the upper part of the tree that it is.
 pub fn elements_tell()
@@ -31,6 +31,11 @@ pub fn places_have_one_way()
 /// An entry stands at one position of one root's list.
 pub fn entries_stand_once()
     ensures { EntriesStandOnce }
+{}
+
+/// A node stands at one place of one root's tree.
+pub fn nodes_stand_once()
+    ensures { NodesStandOnce }
 {}
 
 /// What is in a tree has a link up, so entries and nodes with none are in no tree.

@@ -119,3 +119,10 @@ pow_small d h =
           let q : zero < 2 ^ (d - 63) = pow_pos (d - 63) in
           absurd (omega arith)
     ]
+
+pub pow_le : (m n : ℕ) → m ≤ n → 2 ^ m ≤ 2 ^ n
+pow_le m n h =
+    let e : n ≡ m + (n - m) = omega arith in
+    let p : 2 ^ n ≡ 2 ^ m * 2 ^ (n - m) = ap (λ x. 2 ^ x) e ∙ pow-add 2 m (n - m) in
+    let q : 0 < 2 ^ (n - m) = pow_pos (n - m) in
+    grind arith

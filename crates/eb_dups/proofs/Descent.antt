@@ -4,6 +4,7 @@ use Rattle.std.specs.Prelude.{pos, negsuc}
 use Rattle.std.proofs.lemmas.Bool.{cases_lt}
 use Rattle.std.proofs.lemmas.Nat.{pow-add}
 use Rattle.eb_arena.proofs.Ways.{part_split}
+use Rattle.eb_arena.proofs.Reading.{same_tree}
 use Rattle.eb_arena.specs.declared.links.Side.TheVariants as sides
 use Rattle.eb_arena.specs.declared.links.Target.{Target}
 use Rattle.eb_arena.specs.declared.links.Target.TheVariants as targets
@@ -14,7 +15,8 @@ use Rattle.eb_arena.specs.Parts.{Parts, element_at}
 use Rattle.eb_arena.specs.Shape.{Tree, tip, fork, Stands, Split, IsBelow, Equals}
 use Rattle.eb_arena.proofs.Unique.{nothing_stands}
 use Rattle.eb_arena.specs.Way.{Step, from_right, plug, Leads}
-use Rattle.eb_dups.specs.Spine.{IsTwins, spine_value, depth, depth_of, IsSpine, HasGap, IsTwinTree, IsSlot}
+use Rattle.eb_dups.specs.Spine.{IsTwins, spine_value, spine_length, depth, depth_of, IsSpine, HasGap, IsTwinTree, IsSlot}
+use Rattle.eb_dups.specs.Added.{VisitsSpine}
 
 pub depth_of_is : (a : Parts) (target : Target) (place : Place) (t : Tree) → Stands a target place t → depth_of a target ≡ depth t
 depth_of_is a target place (tip e k) s = ap (depth_of a) s.0
@@ -79,7 +81,7 @@ below_twins n (tip e k) h = tt
 below_twins n (fork i (pos b) l r) h = h
 below_twins n (fork i (negsuc m) l r) h = tt
 
-below_depth : (n : ℕ) (t : Tree) → IsBelow n t → depth t ≤ n
+pub below_depth : (n : ℕ) (t : Tree) → IsBelow n t → depth t ≤ n
 below_depth n (tip e k) h = omega arith
 below_depth n (fork i (pos b) l r) h = absurd h
 below_depth n (fork i (negsuc m) l r) h = omega (arith, h)
@@ -250,7 +252,51 @@ next_twins a head slot here next i w n e =
     ] in
     subst (IsTwinTree a) (sym e) t
 
--- the slot too
-pub slot_twins : (a : Parts) (head slot : Target) → IsSlot a head slot → IsTwinTree a slot
-slot_twins a head slot s =
-    record { place = s.part_place; tree = s.part; stands = s.part_stands; split = part_split s.steps s.part (subst Split s.part_is s.split); twins = s.twins }
+-- how many elements of the spine were visited: all from the head down to here
+pub record Counted (a : Parts) (head here : Target) (old now : ℕ) : Type 0 where
+  pub place : Place
+  pub tree : Tree
+  pub stands : Stands a head place tree
+  pub at : Tree
+  pub at_place : Place
+  pub at_stands : Stands a here at_place at
+  pub taken : now + spine_length at ≡ old + (spine_length tree + 1)
+
+pub count_start : (a : Parts) (head : Target) (old now : ℕ) → IsTwinTree a head → now ≡ old + 1 → Counted a head head old now
+count_start a head old now h e =
+    record { place = h.place; tree = h.tree; stands = h.stands; at = h.tree; at_place = h.place; at_stands = h.stands; taken = omega (arith, e) }
+
+count_at : (a : Parts) (head here : Target) (i old now : ℕ) (c : Counted a head here old now) (t : Tree) → Stands a here c.at_place t → IsTwins t → c.at ≡ t → here ≡ targets.Node i → Counted a head (element_at a i).right old (now + 1)
+count_at a head here i old now c (tip e k) s w h n = let x : targets.Leaf e ≡ targets.Node i = sym s.0 ∙ n in cc
+count_at a head here i old now c (fork j (pos b) l r) s w h n = absurd w
+count_at a head here i old now c (fork j (negsuc m) l r) s w h n =
+    let e : j ≡ i = ap index_of (sym s.0 ∙ n) in
+    let k : spine_length c.at ≡ spine_length r + 1 = ap spine_length h in
+    let t : now + spine_length c.at ≡ old + (spine_length c.tree + 1) = c.taken in
+    record {
+      place = c.place;
+      tree = c.tree;
+      stands = c.stands;
+      at = r;
+      at_place = places.Under i sides.Right;
+      at_stands = subst (λ x. Stands a (element_at a x).right (places.Under x sides.Right) r) e s.5;
+      taken = omega (arith, k, t);
+    }
+
+pub count_down : (a : Parts) (head here next : Target) (i old now new : ℕ) → Counted a head here old now → IsTwinTree a here → targets.Node i ≡ here → next ≡ (element_at a i).right → new ≡ now + 1 → Counted a head next old new
+count_down a head here next i old now new c w n e k =
+    let same : c.at ≡ w.tree = same_tree a c.at w.tree here c.at_place w.place c.at_stands w.stands in
+    let x : Counted a head (element_at a i).right old (now + 1) = count_at a head here i old now c w.tree (subst (Stands a here c.at_place) same c.at_stands) w.twins same (sym n) in
+    subst (λ m. Counted a head next old m) (sym k) (subst (λ t. Counted a head t old (now + 1)) (sym e) x)
+
+count_last : (a : Parts) (head here : Target) (old now : ℕ) (c : Counted a head here old now) (t : Tree) → Stands a here c.at_place t → c.at ≡ t → ((i : ℕ) → here ≡ targets.Node i → ⊥) → now ≡ old + (spine_length c.tree + 1)
+count_last a head here old now c (tip e k) s h n =
+    let x : spine_length c.at ≡ 0 = ap spine_length h in
+    let t : now + spine_length c.at ≡ old + (spine_length c.tree + 1) = c.taken in
+    omega (arith, x, t)
+count_last a head here old now c (fork j b l r) s h n = absurd (n j s.0)
+
+pub count_end : (a : Parts) (head here : Target) (old now : ℕ) → Counted a head here old now → ((i : ℕ) → here ≡ targets.Node i → ⊥) → VisitsSpine a head old now
+count_end a head here old now c n place tree s =
+    let same : c.tree ≡ tree = same_tree a c.tree tree head c.place place c.stands s in
+    count_last a head here old now c c.at c.at_stands refl n ∙ ap (λ t. old + (spine_length t + 1)) same

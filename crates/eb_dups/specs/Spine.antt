@@ -1,12 +1,12 @@
 -- Trees of equal keys and their right spines (docs/TREES.md, "Equal keys").
-use Rattle.std.specs.Prelude.{◌≡◌, ℕ, ◌+◌, ◌-◌, ◌^◌, ◌<◌, pos, negsuc, unsigned_abs, List, [], ◌∷◌, ◌++◌, length, Option, Some}
+use Rattle.std.specs.Prelude.{◌≡◌, ℕ, ◌+◌, ◌-◌, ◌^◌, ◌<◌, ◌==◌, if◌then◌else◌, pos, negsuc, unsigned_abs, List, [], ◌∷◌, ◌++◌, length, Option, Some}
 use Rattle.eb_arena.specs.declared.links.Target.{Target}
 use Rattle.eb_arena.specs.declared.links.Target.TheVariants as targets
 use Rattle.eb_arena.specs.declared.links.Place.{Place}
 use Rattle.eb_arena.specs.Parts.{Parts, element_at}
 use Rattle.eb_arena.specs.Shape.{Tree, tip, fork, items, Keys, Stands, Split, Shape}
 use Rattle.eb_arena.specs.Way.{Step, from_left, from_right, plug, Leads}
-use Rattle.eb_dups.specs.Grown.{with_tree}
+use Rattle.eb_dups.specs.Grown.{Grows, with_tree}
 
 -- a leaf or a node of equal keys
 abbrev pub IsTwins : Tree → Type 0
@@ -19,6 +19,23 @@ abbrev pub spine_value : Tree → ℕ
 spine_value (tip e k) = 0
 spine_value (fork i (pos b) l r) = 0
 spine_value (fork i (negsuc n) l r) = 2 ^ n + spine_value r
+
+-- how many nodes the right spine has
+abbrev pub spine_length : Tree → ℕ
+spine_length (tip e k) = 0
+spine_length (fork i (pos b) l r) = 0
+spine_length (fork i (negsuc n) l r) = spine_length r + 1
+
+-- the key of the first leaf
+abbrev pub first_key : Tree → ℕ
+first_key (tip e k) = k
+first_key (fork i b l r) = first_key l
+
+-- the spine value of all of a key in a tree; 0 where the tree has none of it
+abbrev pub spine_of : ℕ → Tree → ℕ
+spine_of key (tip e k) = 0
+spine_of key (fork i (pos b) l r) = spine_of key l + spine_of key r
+spine_of key (fork i (negsuc n) l r) = if first_key l == key then 2 ^ n + spine_value r else 0
 
 -- the depth of a tree of equal keys: minus the bit of its node, and 0 for a leaf
 abbrev pub depth : Tree → ℕ
@@ -54,11 +71,19 @@ pub record KeyHead (a : Parts) (head : Target) (key : ℕ) : Type 0 where
   pub whole : IsWhole way
   pub twins : IsTwins tree
   pub keys : Keys (λ x. x ≡ key) tree
-  pub room : spine_value tree < 2 ^ 63 - 1
 
--- the tree of the key after an insertion: the entry stands at its end, and its spine value rose by one
-pub record TwinAdded (a z : Parts) (trees : ℕ → Option Tree) (root : ℕ) (way : List Step) (tree : Tree) (key entry : ℕ) : Type 0 where
+-- the spine value of what stands there has room for one more
+abbrev pub MayRise : Parts → Target → Type 0
+MayRise a head = (place : Place) (tree : Tree) → Stands a head place tree → spine_value tree < 2 ^ 63 - 1
+
+-- the head of the key after an insertion: the entry's node where each depth of the spine was taken, and else the head as it was
+abbrev pub head_after : Target → Tree → ℕ → Target
+head_after head tree entry = if spine_value tree + 1 == 2 ^ depth tree then targets.Node entry else head
+
+-- the tree of the key after an insertion: the entry stands at its end, its node is the new one, and the spine value rose by one
+pub record TwinAdded (a z : Parts) (trees : ℕ → Option Tree) (root : ℕ) (way : List Step) (head : Target) (tree : Tree) (key entry : ℕ) : Type 0 where
   pub after : Tree
+  pub grows : Grows tree entry key after
   pub elements : length z.elements ≡ length a.elements
   pub roots : length z.links ≡ length a.links
   pub shape : Shape z (with_tree trees root (Some (plug way after)))
@@ -66,6 +91,9 @@ pub record TwinAdded (a z : Parts) (trees : ℕ → Option Tree) (root : ℕ) (w
   pub spine : spine_value after ≡ spine_value tree + 1
   pub twins : IsTwins after
   pub keys : Keys (λ x. x ≡ key) after
+  pub place : Place
+  pub leads : Leads z root place way
+  pub stands : Stands z (head_after head tree entry) place after
 
 -- the way of steps up along a right spine
 abbrev pub IsSpine : List Step → Type 0

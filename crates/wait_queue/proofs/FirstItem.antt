@@ -3,7 +3,7 @@ use Rattle.std.proofs.Common.{◌≡◌, ℕ, ◌+◌, ◌/◌, ◌^◌, ◌<◌
 use Rattle.std.specs.Prelude.{int_le}
 use Rattle.std.specs.List.{filter, AllByRecursion}
 use Rattle.std.proofs.lemmas.List.{length-set}
-use Rattle.sched_base.specs.KeyedList.{KeyedItem, KeyedList, KeyedRoots, AreKeyed, IsKeyed, root_at, without_entry, inserted_into, deleted_from, with_entry, is_entry, holds, first_entry, key_of_entry, IsFree, ChangesRoot}
+use Rattle.sched_base.specs.KeyedList.{KeyedItem, KeyedList, KeyedRoots, AreKeyed, root_at, without_entry, inserted_into, deleted_from, with_entry, is_entry, holds, first_entry, key_of_entry, IsFree, ChangesRoot}
 use Rattle.sched_base.proofs.Keyed.{at_root, keyed_roots-deleted}
 use Rattle.sched_base.proofs.Inserted.{all-weaker, filter-inserted_out}
 use Rattle.queue_model.specs.Ticks.{distance, is_expired, is_set}

@@ -5,12 +5,12 @@ use Rattle.std.specs.Option.{option_map, is_some, IfSome}
 use Rattle.std.specs.List.{filter, find, list_any, AllByRecursion, IsDistinct}
 use Rattle.std.proofs.lemmas.Bool.{cases_Bool, cases_eq, or_parts, not_from_false, false≢true, eqb-true, eqb-false, eq-eqb, ne_eqb}
 use Rattle.std.proofs.lemmas.Int.{ints}
-use Rattle.std.proofs.lemmas.List.{get_or_default, get_or-set_same, get_or-set_other, length-set, length-map, length-replicate}
+use Rattle.std.proofs.lemmas.List.{get_or_default, length-set, length-map, length-replicate}
 use Rattle.std.proofs.lemmas.Map.Steps.{length-le_from_distinct_below}
-use Rattle.sched_base.specs.KeyedList.{KeyedItem, KeyedList, KeyedRoots, AreKeyed, IsKeyed, root_at, with_root, with_entry, without_entry, inserted_into, deleted_from, inserted, is_entry, holds, key_of_entry, first_entry, StandsIn, IsFree, ChangesRoot, IsOnce, blank}
-use Rattle.sched_base.proofs.Inserted.{map-inserted, all-inserted, all-filter, all-weaker, rising-inserted, rising-filter, filter-all, filter-none, all-both, all-map}
+use Rattle.sched_base.specs.KeyedList.{KeyedItem, KeyedList, KeyedRoots, AreKeyed, root_at, with_root, with_entry, without_entry, inserted_into, deleted_from, inserted, is_entry, holds, key_of_entry, first_entry, StandsIn, IsFree, ChangesRoot, IsOnce, blank}
+use Rattle.sched_base.proofs.Inserted.{map-inserted, all-inserted, all-filter, all-weaker, filter-all, filter-none, all-both, all-map}
 use Rattle.sched_base.proofs.Keyed.{at_root, at_other, keyed_roots-deleted}
-use Rattle.sched_base.proofs.Once.{In, in_all, in_held, in_find, item_of_held, once-inserted, once-filter, held-deleted, none_held, none_found}
+use Rattle.sched_base.proofs.Once.{In, in_all, in_held, in_find, item_of_held, held-deleted, none_held, none_found}
 use Rattle.queue_model.specs.Ticks.{distance, is_expired, is_set}
 use Rattle.queue_model.specs.WaitList.{WaitItem, WaitList, is_of, without, placed, expiry_of, armed, unlinked}
 use Rattle.queue_model.specs.Walk.{walked, HasTicks, IsByDistance}

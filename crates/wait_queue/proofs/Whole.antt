@@ -2,7 +2,7 @@
 use Rattle.std.proofs.Common.{◌≡◌, ℕ, ◌/◌, ◌^◌, ◌<◌, true, false, not, eqb, List, [], ◌∷◌, ◌++◌, length, map, sym, ap, subst, ◌∙◌}
 use Rattle.std.specs.List.{list_any, AllByRecursion}
 use Rattle.std.proofs.lemmas.Bool.{not-true}
-use Rattle.sched_base.specs.KeyedList.{KeyedItem, KeyedRoots, AreKeyed, IsKeyed, root_at, IsOnce, is_entry}
+use Rattle.sched_base.specs.KeyedList.{KeyedItem, KeyedRoots, AreKeyed, root_at, IsOnce, is_entry}
 use Rattle.sched_base.proofs.Inserted.{filter-passes, all-weaker}
 use Rattle.queue_model.specs.WaitList.{WaitItem, WaitList}
 use Rattle.queue_model.specs.Sweep.{due, fired, swept}

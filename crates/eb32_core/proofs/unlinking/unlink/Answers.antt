@@ -1,6 +1,6 @@
 use Rattle.std.proofs.Common.{refl}
 use Rattle.eb32_core.proofs.Cost.{unlink_few}
-use Rattle.eb32_core.proofs.UnlinkReads.{reads, may_write, counts_same, counts_hung, part_stays, place_stays, place_left, read_unlinks}
+use Rattle.eb32_core.proofs.UnlinkReads.{reads, may_write, counts_same, counts_hung, part_stays, place_stays, place_left, read_unlinks, read_own}
 use Rattle.eb32_core.proofs.unlinking.unlink.Goals as goal
 
 pub hang-requires-3-clause-some : goal.hang-requires-3-clause-some
@@ -21,6 +21,10 @@ put_link-requires-clause-left g c = place_left c.above-above.result (counts_hung
 pub returns-clause-unlinks : goal.returns-clause-unlinks
 returns-clause-unlinks g c =
     read_unlinks (reads c.requires.shape c.requires.in_tree c.requires.below_node c.element-up.ensures c.index-freed.ensures c.beside-sibling.ensures c.above-above.ensures) (record { none_is = refl; leaf_is = c.leaf.ensures; top_is = c.node.ensures; first = c.hang.ensures; second = c.hang-2.ensures; third = c.hang-3.ensures; fourth = c.put_link.ensures })
+
+pub returns-clause-own : goal.returns-clause-own
+returns-clause-own g c =
+    read_own (reads c.requires.shape c.requires.in_tree c.requires.below_node c.element-up.ensures c.index-freed.ensures c.beside-sibling.ensures c.above-above.ensures) (record { none_is = refl; leaf_is = c.leaf.ensures; top_is = c.node.ensures; first = c.hang.ensures; second = c.hang-2.ensures; third = c.hang-3.ensures; fourth = c.put_link.ensures })
 
 pub returns-clause-few : goal.returns-clause-few
 returns-clause-few g c =

@@ -5,23 +5,23 @@ use Rattle.eb32_walk.proofs.Finding.{tree_fits, found_tree, found_place, ge_in_p
 use Rattle.eb32_walk.proofs.search.lookup_ge.Goals as goal
 
 pub key_at-requires : goal.key_at-requires
-key_at-requires c = found_tree c.args.arena.now c.args.root c.args.key c.in_ok-part.part c.in_ok-part.ensures
+key_at-requires c = found_tree c.args.arena.now c.args.root c.args.key c.in_ok-part.part c.in_ok-part.ensures.found
 
 pub end_below-requires : goal.end_below-requires
-end_below-requires c = found_tree c.args.arena.now c.args.root c.args.key c.in_ok-part.part c.in_ok-part.ensures
+end_below-requires c = found_tree c.args.arena.now c.args.root c.args.key c.in_ok-part.part c.in_ok-part.ensures.found
 
 pub place_of-requires : goal.place_of-requires
 place_of-requires c =
-    let t : IsTree c.args.arena.now c.in_ok-part.part = found_tree c.args.arena.now c.args.root c.args.key c.in_ok-part.part c.in_ok-part.ensures in
+    let t : IsTree c.args.arena.now c.in_ok-part.part = found_tree c.args.arena.now c.args.root c.args.key c.in_ok-part.part c.in_ok-part.ensures.found in
     record { some = some_target _ _ t; exists = tree_fits _ _ t }
 
 pub neighbour-requires : goal.neighbour-requires
-neighbour-requires c = found_place c.args.arena.now c.args.root c.args.key c.in_ok-part.part c.place_of.result c.in_ok-part.ensures c.place_of.ensures
+neighbour-requires c = found_place c.args.arena.now c.args.root c.args.key c.in_ok-part.part c.place_of.result c.in_ok-part.ensures.found c.place_of.ensures
 
 pub returns-then-key-key_at-clause-answer : goal.returns-then-key-key_at-clause-answer
 returns-then-key-key_at-clause-answer c =
-    ge_in_part c.args.arena.now c.args.root c.args.key c.in_ok-part.part c.end_below.result c.in_ok-part.ensures (omega (arith, c.key_at.ensures, c.if-key-key_at.true)) c.end_below.ensures.answer
+    ge_in_part c.args.arena.now c.args.root c.args.key c.in_ok-part.part c.end_below.result c.in_ok-part.ensures.found (omega (arith, c.key_at.ensures, c.if-key-key_at.true)) c.end_below.ensures.answer
 
 pub returns-else-key-key_at-clause-answer : goal.returns-else-key-key_at-clause-answer
 returns-else-key-key_at-clause-answer c =
-    ge_after_part c.args.arena.now c.args.root c.args.key c.in_ok-part.part c.place_of.result c.neighbour.result c.in_ok-part.ensures (omega (arith, c.key_at.ensures, c.if-key-key_at.false)) c.place_of.ensures c.neighbour.ensures.answer
+    ge_after_part c.args.arena.now c.args.root c.args.key c.in_ok-part.part c.place_of.result c.neighbour.result c.in_ok-part.ensures.found (omega (arith, c.key_at.ensures, c.if-key-key_at.false)) c.place_of.ensures c.neighbour.ensures.answer

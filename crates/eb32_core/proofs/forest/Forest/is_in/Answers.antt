@@ -1,9 +1,9 @@
-use Rattle.std.proofs.Common.{◌≡◌, ℕ, None, Some, sym, ap, ◌∙◌, subst, arith}
+use Rattle.std.proofs.Common.{◌≡◌, ℕ, None, Some, refl, sym, ap, ◌∙◌, subst, arith}
 use Rattle.sched_base.specs.KeyedList.{StandsIn}
 use Rattle.eb_arena.specs.Links.{is_nowhere}
 use Rattle.eb32_core.specs.Forest.{Grove, seen_of}
 use Rattle.eb32_walk.specs.Ends.{IsIn}
-use Rattle.eb32_core.proofs.Standing.{tended, stands, out, nowhere_is, only}
+use Rattle.eb32_core.proofs.Standing.{tended, stands, out, nowhere_is, only, free_is}
 use Rattle.eb32_core.proofs.forest.Forest.is_in.Goals as goal
 use Rattle.eb32_core.proofs.forest.Forest.is_in.Goals.{then-entry-entries-via-then-entry-entries, then-entry-entries-via-else-entry-entries+then-is_none}
 
@@ -28,3 +28,6 @@ returns-clause-one c =
     let f : Grove = record { parts = c.self.inside.arena; made = c.self.inside.made.items } in
     let v : f ≡ c.args.self.now = c.self.view_is in
     subst (λ x. (root : ℕ) → StandsIn root c.args.entry (seen_of x) → Some c.root_above.result ≡ Some root) v (only f _ _ (tended f c.self.invariant) c.root_above.ensures.exists c.root_above.ensures.held)
+
+pub returns-then-entry-entries-clause-free : goal.returns-then-entry-entries-clause-free
+returns-then-entry-entries-clause-free c = free_is (seen_of c.args.self.now) c.args.entry None (returns-then-entry-entries-clause-one c) refl

@@ -2,7 +2,7 @@ use Rattle.std.proofs.Common.{◌-◌, ◌^◌, ◌<◌, ◌≤◌, arith, rules
 use Rattle.std.specs.Int.Bits.{bit_xor}
 use Rattle.std.specs.Int.Count.{count_leading_zeros}
 use Rattle.eb32_core.proofs.HighestBit.{highest_bit, zeros_before}
-use Rattle.eb32_core.proofs.descent.top_bit.Goals as goal
+use Rattle.eb32_core.proofs.branching.top_bit.Goals as goal
 
 pub overflow_sub-result : goal.overflow_sub-result
 overflow_sub-result c =

@@ -1,4 +1,0 @@
-use Rattle.eb32_core.proofs.tests.keeps_a_short_spine.Given as goal
-
-abbrev pub ghosts-filled : goal.ghosts-filled
-ghosts-filled g a = record { name = a.blank.name; parts = a.blank.parts }
