@@ -2,18 +2,25 @@
 use Rattle.std.proofs.Common.{◌≡◌, ℕ, ◌+◌, ◌*◌, ◌<◌, List, [], ◌∷◌, IsTrue, sym, arith, subst}
 use Rattle.step_tables.specs.declared.tables.Script.{Script}
 use Rattle.step_tables.specs.Sound.{is_sound}
+use Rattle.task_machine.specs.declared.calls.Entry.{Entry}
 use Rattle.run_model.specs.Run.{Round}
 use Rattle.run_model.specs.Lawful.{RoundOf}
 use Rattle.run_model.specs.Standing.{Standing, opening, next_tick}
 use Rattle.turn_steps.proofs.Fit.{sound_parts, within-parts, IsFit-sound}
 use Rattle.std.proofs.lemmas.Bool.{leb-true}
-use Rattle.standing.specs.Between.{round_takes}
+use Rattle.standing.specs.Between.{entered, round_takes}
+use Rattle.standing.specs.Clock.{KeepsClock}
 use Rattle.standing.specs.Firm.{Firm}
+use Rattle.standing.specs.Going.{Going, gone_on}
+use Rattle.standing.specs.Homes.{KeepsHomes}
+use Rattle.standing.specs.Keeps.{Keeps}
 use Rattle.standing.specs.Passes.{Passes}
-use Rattle.standing.proofs.ClockKept.{clock-round, clock-next, clock-opening, DelaysAreIn-sound}
-use Rattle.standing.proofs.HomesKept.{HomesBetween-round, HomesBetween-opening, TimersHaveHomes-sound}
+use Rattle.standing.proofs.ClockKept.{clock-going, clock-entered, clock-round, clock-next, clock-opening, DelaysAreIn-sound}
+use Rattle.standing.proofs.Enter.{Keeps-entered}
+use Rattle.standing.proofs.HomesKept.{KeepsHomes-going, KeepsHomes-entered, HomesBetween-round, HomesBetween-opening, TimersHaveHomes-sound}
 use Rattle.standing.proofs.Opening.{KeepsBetween-opening}
 use Rattle.standing.proofs.Rounds.{KeepsBetween-round}
+use Rattle.standing.proofs.Steps.{Keeps-going}
 
 pub firm-opening : (s : Script) → IsTrue (is_sound s) → Firm s s.start 0 (opening s)
 firm-opening s h = record {
@@ -36,6 +43,16 @@ firm-round s r T limit old round new h firm is =
       homes = HomesBetween-round s r T limit old round new (TimersHaveHomes-sound s h) firm.places firm.homes is;
       clock = next.1;
     }
+
+-- within a round
+pub firm-calls : (s : Script) (r T limit : ℕ) (st : Standing) (es : List Entry) → IsTrue (is_sound s) → Firm s T limit st → Going s T (entered s r T st) es → Keeps s (limit + round_takes s) (gone_on s T (entered s r T st) es) × KeepsHomes s (gone_on s T (entered s r T st) es) × KeepsClock s T (gone_on s T (entered s r T st) es)
+firm-calls s r T limit st es h firm going =
+    let fit = IsFit-sound s h in
+    let c = entered s r T st in (
+      Keeps-going s T (limit + round_takes s) c es fit (Keeps-entered s r T limit st fit firm.places) going,
+      KeepsHomes-going s T c es (TimersHaveHomes-sound s h) (KeepsHomes-entered s r T st firm.homes) going,
+      clock-going s T c es firm.tick (DelaysAreIn-sound s h) (clock-entered s r T st firm.clock) going,
+    )
 
 -- what whole rounds lead to
 pub record Firmly (s : Script) (limit r q U : ℕ) (new : Standing) : Type 0 where

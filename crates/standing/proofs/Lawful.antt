@@ -5,10 +5,10 @@ use Rattle.run_model.specs.Standing.{opening}
 use Rattle.turn_steps.proofs.Fit.{IsFit-sound}
 use Rattle.standing.specs.Between.{entered, round_takes}
 use Rattle.standing.specs.Firm.{Firm}
-use Rattle.standing.specs.Laws.{RoundsKeep, NextCallsAreAllowed, RunsCanGoOn, RoundsAreCalls, CallersHear, RunsStandFirm, TakesAreTold, RunsTellReasons}
+use Rattle.standing.specs.Laws.{RoundsKeep, NextCallsAreAllowed, RunsCanGoOn, RoundsAreCalls, CallersHear, RoundsStandFirm, RunsStandFirm, TakesAreTold, RunsTellReasons}
 use Rattle.standing.proofs.Enter.{Keeps-entered}
 use Rattle.standing.proofs.Finish.{going-front}
-use Rattle.standing.proofs.Firm.{firm-opening, firm-passes}
+use Rattle.standing.proofs.Firm.{firm-opening, firm-calls, firm-round, firm-passes}
 use Rattle.standing.proofs.Hears.{can_give-owns}
 use Rattle.standing.proofs.HomesKept.{TimersHaveHomes-sound}
 use Rattle.standing.proofs.Limits.{takes-sound}
@@ -46,6 +46,9 @@ rounds_are s r T limit old new es more keeps is =
 
 pub callers_hear_all : CallersHear
 callers_hear_all = record { owns = Owns-told; gives = can_give-owns }
+
+pub rounds_firm : RoundsStandFirm
+rounds_firm = record { opening = firm-opening; calls = firm-calls; round = firm-round }
 
 pub runs_firm : RunsStandFirm
 runs_firm s rounds q U st sound passes =

@@ -15,7 +15,7 @@ use Rattle.task_machine.specs.History.{Legal, led, calls_of}
 use Rattle.run_model.specs.Run.{Round, Run}
 use Rattle.run_model.specs.Tables.{def_of, home_of}
 use Rattle.run_model.specs.Lawful.{RoundOf, LawfulRun}
-use Rattle.run_model.specs.Standing.{Standing, opening}
+use Rattle.run_model.specs.Standing.{Standing, opening, next_tick}
 use Rattle.turn_steps.specs.Left.{Stage, asked, draws_now}
 use Rattle.turn_steps.specs.Told.{Told, told}
 use Rattle.turn_steps.specs.Has.{caller, said, CanGive}
@@ -25,6 +25,7 @@ use Rattle.standing.specs.Between.{KeepsBetween, entered, round_takes}
 use Rattle.standing.specs.Passes.{Passes}
 use Rattle.standing.specs.Firm.{Firm}
 use Rattle.standing.specs.Homes.{KeepsHomes}
+use Rattle.standing.specs.Clock.{KeepsClock}
 
 -- what stands together holds at the opening, and each lawful round keeps it; so does each call within a round
 pub record RoundsKeep : Type 0 where
@@ -53,8 +54,14 @@ RoundsAreCalls =
     (s : Script) (r T limit : ℕ) (old new : Standing) (es more : List Entry) → KeepsBetween s limit old →
     RoundOf s r T old (record { tick = T; entries = es ++ more }) new → Going s T (entered s r T old) es
 
--- all that stands together before a round holds at the opening and after whole rounds, and no task can be taken too often
--- in the next one
+-- all that stands together before a round holds at the opening, and each lawful round keeps it; within the round the
+-- places, the homes and the timers' window stand after each call
+pub record RoundsStandFirm : Type 0 where
+  pub opening : (s : Script) → IsTrue (is_sound s) → Firm s s.start 0 (opening s)
+  pub calls : (s : Script) (r T limit : ℕ) (st : Standing) (es : List Entry) → IsTrue (is_sound s) → Firm s T limit st → Going s T (entered s r T st) es → Keeps s (limit + round_takes s) (gone_on s T (entered s r T st) es) × KeepsHomes s (gone_on s T (entered s r T st) es) × KeepsClock s T (gone_on s T (entered s r T st) es)
+  pub round : (s : Script) (r T limit : ℕ) (old : Standing) (round : Round) (new : Standing) → IsTrue (is_sound s) → Firm s T limit old → RoundOf s r T old round new → Firm s (next_tick s r T new) (limit + round_takes s) new
+
+-- so it stands after whole rounds, and no task can be taken too often in the next one
 abbrev pub RunsStandFirm : Type 0
 RunsStandFirm =
     (s : Script) (rounds : List Round) (q U : ℕ) (st : Standing) → IsTrue (is_sound s) → Passes s 0 s.start (opening s) rounds q U st →

@@ -1,6 +1,6 @@
 //! What holds of every run, as functions that do nothing and whose contracts are the laws.
 
-ghost use Rattle.standing.specs.Laws.{CallersHear, NextCallsAreAllowed, RoundsAreCalls, RoundsKeep, RunsCanGoOn, RunsStandFirm, RunsTellReasons, TakesAreTold};
+ghost use Rattle.standing.specs.Laws.{CallersHear, NextCallsAreAllowed, RoundsAreCalls, RoundsKeep, RoundsStandFirm, RunsCanGoOn, RunsStandFirm, RunsTellReasons, TakesAreTold};
 
 /// What stands together holds at the opening, and each call within a round and each lawful round
 /// keeps it.
@@ -33,7 +33,14 @@ pub fn callers_hear()
     ensures { CallersHear }
 {}
 
-/// All that stands together before a round holds at the opening and after whole rounds.
+/// All that stands together before a round holds at the opening, and each lawful round keeps it; within
+/// the round places, homes and the timers' window stand after each call.
+#[tactic(auto, using(crate::proofs::Lawful::rounds_firm))]
+pub fn rounds_stand_firm()
+    ensures { RoundsStandFirm }
+{}
+
+/// All of it stands after whole rounds, and no task can be taken too often in the next one.
 pub fn runs_stand_firm()
     ensures { RunsStandFirm }
 {}

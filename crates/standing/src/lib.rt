@@ -4,6 +4,6 @@
 mod laws;
 
 pub use laws::{
-    callers_hear, next_calls_are_allowed, rounds_are_calls, rounds_keep, runs_can_go_on,
-    runs_stand_firm, runs_tell_reasons, takes_are_told,
+    callers_hear, next_calls_are_allowed, rounds_are_calls, rounds_keep, rounds_stand_firm,
+    runs_can_go_on, runs_stand_firm, runs_tell_reasons, takes_are_told,
 };
