@@ -5,8 +5,8 @@ ghost use Rattle.eb_arena.specs.Shape.{HasShape, list_of};
 ghost use Rattle.eb_dups.specs.Spine.{KeyHead};
 ghost use Rattle.eb32_core.specs.Planted.{has_key};
 
-use eb32_walk::seek;
 use eb_arena::{Arena, Link};
+use eb32_walk::seek;
 
 /// The leaf or the node above all entries of a key in a root, under which `insert_dup` puts one more;
 /// none where no item of the root has the key.

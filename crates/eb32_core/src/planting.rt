@@ -12,8 +12,8 @@ ghost use Rattle.eb32_core.specs.Planted.{IsRoomy, Plants, Visits};
 
 use crate::branching::{side_of, top_bit};
 use eb_arena::{Arena, Link, Side, Up};
-use eb32_walk::descend;
 use eb_dups::{attach, insert_dup};
+use eb32_walk::descend;
 use sched_base::Steps;
 use std::sync::ledger::Ledger;
 

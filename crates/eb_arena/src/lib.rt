@@ -11,6 +11,7 @@ pub use arena::Arena;
 pub use element::Element;
 pub use laws::{
     changes_elsewhere_keep, elements_tell, entries_stand_once, lists_are_determined,
-    lists_are_ordered, nodes_stand_once, parts_in_trees_hang, parts_move_whole, places_have_one_way,
+    lists_are_ordered, nodes_stand_once, parts_in_trees_hang, parts_move_whole,
+    places_have_one_way,
 };
 pub use links::{Link, Place, Side, Target, Up};

@@ -305,13 +305,13 @@ merge-counts s logs m callers =
     let h = m.0 in
     let parts = Legal-split s h m.1.0 in
     let few : (p : ℕ) (d : Entry) → p < length h → (get_or h p d).caller.0 < length logs =
-      λ p d lt. (let f = formed-at s h p d parts.0 lt in rw callers (caller-lt s (get_or h p d).caller (get_or h p d).call f.0)) in
+    λ p d lt. (let f = formed-at s h p d parts.0 lt in rw callers (caller-lt s (get_or h p d).caller (get_or h p d).call f.0)) in
     let whole : (w : Entry → ℕ) → weigh w h ≡ sum_over (λ k. weigh w (log_at logs k)) 0 (length logs) =
-      λ w. by_callers w (length logs) h few ∙ sum_over-equal (λ k. weigh w (calls_of k h)) (λ k. weigh w (log_at logs k)) 0 (length logs) (λ j. ap (weigh w) (m.1.1 j)) in
+    λ w. by_callers w (length logs) h few ∙ sum_over-equal (λ k. weigh w (calls_of k h)) (λ k. weigh w (log_at logs k)) 0 (length logs) (λ j. ap (weigh w) (m.1.1 j)) in
     let count : length h ≡ entry_count logs =
-      sym (weigh-ones h) ∙ whole (λ e. 1) ∙ sum_over-equal (λ k. weigh (λ e. 1) (log_at logs k)) (λ k. length (log_at logs k)) 0 (length logs) (λ j. weigh-ones (log_at logs j)) ∙ sym (sum_over-logs length logs) in
+    sym (weigh-ones h) ∙ whole (λ e. 1) ∙ sum_over-equal (λ k. weigh (λ e. 1) (log_at logs k)) (λ k. length (log_at logs k)) 0 (length logs) (λ j. weigh-ones (log_at logs j)) ∙ sym (sum_over-logs length logs) in
     let taken : takes_in h ≡ take_count logs =
-      sym (weigh-takes h) ∙ whole (λ e. take_of e.call) ∙ sum_over-equal (λ k. weigh (λ e. take_of e.call) (log_at logs k)) (λ k. takes_in (log_at logs k)) 0 (length logs) (λ j. weigh-takes (log_at logs j)) ∙ sym (sum_over-logs takes_in logs) in
+    sym (weigh-takes h) ∙ whole (λ e. take_of e.call) ∙ sum_over-equal (λ k. weigh (λ e. take_of e.call) (log_at logs k)) (λ k. takes_in (log_at logs k)) 0 (length logs) (λ j. weigh-takes (log_at logs j)) ∙ sym (sum_over-logs takes_in logs) in
     (count, taken)
 
 pub takes_in-le : (h : List Entry) → takes_in h ≤ length h
