@@ -10,7 +10,7 @@ use Rattle.eb_arena.specs.declared.links.Target.TheVariants as targets
 use Rattle.eb_arena.specs.declared.links.Place.TheVariants as places
 use Rattle.eb_arena.specs.declared.element.Element.{Element}
 use Rattle.eb_arena.specs.Parts.{Parts, element_at, link_at, with_link, hung}
-use Rattle.eb_arena.specs.Shape.{Tree, tip, fork, items_of, Stands, HasLeaf, HasNode, IsRoot, root_place, InSome}
+use Rattle.eb_arena.specs.Shape.{Tree, tip, fork, items_of, Hangs, HasLeaf, HasNode, IsRoot, root_place, InSome}
 use Rattle.eb_arena.specs.Laws.{SameLeaf, SameNode, SameOn}
 use Rattle.eb_arena.proofs.Frame.{kept, at_set, at_other}
 use Rattle.eb_arena.proofs.Unique.{nothing_stands}
@@ -38,7 +38,7 @@ same_fresh a q e (fork i b l r) f h =
 
 empty_tree : (a : Parts) (q : ℕ) (o : Option Tree) → IsRoot a q o → link_at a q ≡ targets.Nothing → o ≡ None
 empty_tree a q None h e = refl
-empty_tree a q (Some t) h e = absurd (nothing_stands a (root_place a q) t (subst (λ y. Stands a y (root_place a q) t) e h.0))
+empty_tree a q (Some t) h e = absurd (nothing_stands a (root_place a q) t (subst (λ y. Hangs a y (root_place a q) t) e h.0))
 
 other_root : (a : Parts) (q r e : ℕ) (o : Option Tree) → e < length a.elements → (element_at a e).leaf_p ≡ places.Nowhere → (r ≡ q → ⊥) → IsRoot a r o → IsRoot (rooted a q e) r o
 other_root a q r e None f n ne h = get_or-set_other a.links q r (targets.Leaf e) targets.Nothing ne ∙ h
@@ -47,8 +47,8 @@ other_root a q r e (Some t) f n ne h =
     let c : length z.elements ≡ length a.elements = length-set a.elements e (record (element_at a e) { leaf_p = root_place a q }) in
     let l : link_at a r ≡ link_at z r = sym (get_or-set_other a.links q r (targets.Leaf e) targets.Nothing ne) in
     let p : root_place a r ≡ root_place z r = ap (λ y. places.Under (y + r) sides.Left) (sym c) in
-    let k : Stands z (link_at a r) (root_place a r) t = kept a z _ _ t c (same_fresh a q e t f (fresh a r e t _ _ [] h.0 refl h.1 n)) h.0 in
-    (subst (λ y. Stands z y (root_place z r) t) l (subst (λ y. Stands z (link_at a r) y t) p k), h.1)
+    let k : Hangs z (link_at a r) (root_place a r) t = kept a z _ _ t c (same_fresh a q e t f (fresh a r e t _ _ [] h.0 refl h.1 n)) h.0 in
+    (subst (λ y. Hangs z y (root_place z r) t) l (subst (λ y. Hangs z (link_at a r) y t) p k), h.1)
 
 some_other : (ts : ℕ → Option Tree) (q r : ℕ) (o : Option Tree) (P : Tree → Type 0) → ts q ≡ None → IsSomeAnd (ts r) P → IsSomeAnd (with_tree ts q o r) P
 some_other ts q r o P n s =

@@ -10,7 +10,7 @@ use Rattle.eb_arena.specs.declared.links.Target.TheVariants as targets
 use Rattle.eb_arena.specs.declared.links.Place.TheVariants as places
 use Rattle.eb_arena.specs.declared.element.Element.{Element}
 use Rattle.eb_arena.specs.Parts.{Parts, element_at, link_at, with_element, unused}
-use Rattle.eb_arena.specs.Shape.{Tree, tip, fork, items_of, Stands, Split, IsRoot, Shape, root_place, list_of}
+use Rattle.eb_arena.specs.Shape.{Tree, tip, fork, items_of, Hangs, Split, IsRoot, Shape, root_place, list_of}
 use Rattle.eb_arena.specs.Laws.{SameNode, SameOn}
 use Rattle.eb_arena.proofs.Frame.{kept, at_set, at_other}
 use Rattle.eb_arena.proofs.Reading.{list_of_is}
@@ -64,7 +64,7 @@ key_root a e key q None f n h = h
 key_root a e key q (Some t) f n h =
     let c : length (keyed a e key).elements ≡ length a.elements = length-set a.elements e (record (element_at a e) { key = key }) in
     let p : root_place a q ≡ root_place (keyed a e key) q = ap (λ y. places.Under (y + q) sides.Left) (sym c) in
-    (subst (λ y. Stands (keyed a e key) (link_at a q) y t) p (kept a (keyed a e key) _ _ t c (key_on a e key t f (fresh a q e t _ _ [] h.0 refl h.1 n)) h.0), h.1)
+    (subst (λ y. Hangs (keyed a e key) (link_at a q) y t) p (kept a (keyed a e key) _ _ t c (key_on a e key t f (fresh a q e t _ _ [] h.0 refl h.1 n)) h.0), h.1)
 
 -- a key that is written at an entry in no tree changes no tree
 pub key_shape : (a : Parts) (ts : ℕ → Option Tree) (e key : ℕ) → Shape a ts → e < length a.elements → (element_at a e).leaf_p ≡ places.Nowhere → Shape (keyed a e key) ts

@@ -9,7 +9,7 @@ use Rattle.eb_arena.specs.declared.links.Target.TheVariants as targets
 use Rattle.eb_arena.specs.declared.links.Place.{Place}
 use Rattle.eb_arena.specs.Links.{index_of}
 use Rattle.eb_arena.specs.Parts.{Parts, element_at}
-use Rattle.eb_arena.specs.Shape.{Tree, tip, fork, Keys, Stands, Split, DividesAt, Equals}
+use Rattle.eb_arena.specs.Shape.{Tree, tip, fork, Keys, Hangs, Split, DividesAt, Equals}
 use Rattle.eb_arena.proofs.Trees.{Has, keys_at, keys_map, div_level}
 use Rattle.eb_arena.proofs.Ways.{part_split, leaf_key}
 use Rattle.eb32_walk.specs.Search.{Narrow, Reaches, own_key, turn_of}
@@ -31,13 +31,13 @@ half_is b x =
     let p : 2 ^ suc b ≡ 2 ^ b * 2 = ap (λ y. 2 ^ y) e ∙ pow-add 2 b 1 in
     div-div-eq-div-mul x (2 ^ b) 2 ∙ ap (λ y. x / y) (sym p)
 
-leaf_ends : (a : Parts) (key i : ℕ) (place : Place) (t : Tree) → Stands a (targets.Leaf i) place t → Ends (element_at a i).key key t
+leaf_ends : (a : Parts) (key i : ℕ) (place : Place) (t : Tree) → Hangs a (targets.Leaf i) place t → Ends (element_at a i).key key t
 leaf_ends a key i place (tip e k) s =
     let o : k ≡ (element_at a i).key = sym s.3 ∙ ap (λ m. (element_at a m).key) (sym (ap index_of s.0)) in
     record { twins = λ h. tt; near = λ b h. near_equal (element_at a i).key b (tip e k) o }
 leaf_ends a key i place (fork j b l r) s = let x : targets.Leaf i ≡ targets.Node j = s.0 in cc
 
-node_ends : (a : Parts) (key i : ℕ) (place : Place) (t : Tree) → Stands a (targets.Node i) place t → Split t → turn_of (element_at a i).key (element_at a i).bit key ≡ None → Ends (element_at a i).key key t
+node_ends : (a : Parts) (key i : ℕ) (place : Place) (t : Tree) → Hangs a (targets.Node i) place t → Split t → turn_of (element_at a i).key (element_at a i).bit key ≡ None → Ends (element_at a i).key key t
 node_ends a key i place (tip e k) s p t = let x : targets.Node i ≡ targets.Leaf e = s.0 in cc
 node_ends a key i place (fork j (negsuc n) l r) s p t =
     let e : j ≡ i = sym (ap index_of s.0) in

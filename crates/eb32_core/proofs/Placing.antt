@@ -6,7 +6,7 @@ use Rattle.eb_arena.specs.declared.links.Target.TheVariants as targets
 use Rattle.eb_arena.specs.declared.links.Place.TheVariants as places
 use Rattle.eb_arena.specs.Links.{index_of, place_index, place_side}
 use Rattle.eb_arena.specs.Parts.{Parts, up_of}
-use Rattle.eb_arena.specs.Shape.{Stands}
+use Rattle.eb_arena.specs.Shape.{Hangs}
 use Rattle.eb_arena.proofs.Unique.{leads_somewhere, nothing_stands}
 use Rattle.eb_dups.proofs.Ending.{up_of_is, place_bound}
 use Rattle.eb_dups.proofs.Descent.{index_fits}
@@ -14,7 +14,7 @@ use Rattle.eb_dups.proofs.LeftOfRoot.{left_of_root}
 use Rattle.eb32_core.specs.Landing.{IsLanding}
 
 pub land_some : (a : Parts) (q key : ℕ) (part : Target) → IsLanding a q key part → part ≡ targets.Nothing → ⊥
-land_some a q key part l e = nothing_stands a l.narrow.place l.narrow.tree (subst (λ y. Stands a y l.narrow.place l.narrow.tree) e l.narrow.stands)
+land_some a q key part l e = nothing_stands a l.narrow.place l.narrow.tree (subst (λ y. Hangs a y l.narrow.place l.narrow.tree) e l.narrow.stands)
 
 pub land_fits : (a : Parts) (q key : ℕ) (part : Target) → IsLanding a q key part → index_of part < length a.elements
 land_fits a q key part l = index_fits a part l.narrow.place l.narrow.tree l.narrow.stands

@@ -10,7 +10,7 @@ use Rattle.eb_arena.specs.declared.links.Target.{Target}
 use Rattle.eb_arena.specs.declared.links.Target.TheVariants as targets
 use Rattle.eb_arena.specs.declared.links.Place.TheVariants as places
 use Rattle.eb_arena.specs.Parts.{Parts, element_at, link_at, up_of}
-use Rattle.eb_arena.specs.Shape.{Tree, tip, fork, items, items_of, Keys, AllKeys, HasLeaf, Split, DividesAt, Stands, IsRoot, Shape, root_place, list_of}
+use Rattle.eb_arena.specs.Shape.{Tree, tip, fork, items, items_of, Keys, AllKeys, HasLeaf, Split, DividesAt, Hangs, IsRoot, Shape, root_place, list_of}
 use Rattle.eb_arena.specs.Way.{Step, from_left, from_right, plug, before, after}
 use Rattle.eb_arena.proofs.Trees.{Has, keys_at, keys_map, some_key, div_le_div}
 use Rattle.eb_arena.proofs.Keyed.{all-append, all_items, all_map}
@@ -241,7 +241,7 @@ branch_planted a q part e b side l f fe free top sd ts sh =
 -- ---- what was visited
 
 down_some : (a : Parts) (q key : ℕ) (part : Target) → Narrow a q key part → link_at a q ≡ targets.Nothing → ⊥
-down_some a q key part n e = nothing_stands a (root_place a q) (plug n.way n.tree) (subst (λ t. Stands a t (root_place a q) (plug n.way n.tree)) e n.whole.0)
+down_some a q key part n e = nothing_stands a (root_place a q) (plug n.way n.tree) (subst (λ t. Hangs a t (root_place a q) (plug n.way n.tree)) e n.whole.0)
 
 pub visits_twin : (a : Parts) (q key old mid new : ℕ) (part : Target) → Reaches a q key old mid part → own_key a part ≡ key → VisitsSpine a part mid new → Visits a q key old new
 visits_twin a q key old mid new part r o v =

@@ -9,7 +9,7 @@ use Rattle.eb_arena.specs.declared.links.Place.{Place}
 use Rattle.eb_arena.specs.declared.links.Place.TheVariants as places
 use Rattle.eb_arena.specs.Links.{index_of, place_index}
 use Rattle.eb_arena.specs.Parts.{Parts, element_at, link_at, up_of}
-use Rattle.eb_arena.specs.Shape.{Tree, tip, fork, Stands, HasLeaf, HasNode, IsRoot, root_place, Shape, InSome}
+use Rattle.eb_arena.specs.Shape.{Tree, tip, fork, Hangs, HasLeaf, HasNode, IsRoot, root_place, Shape, InSome}
 use Rattle.eb_arena.specs.Way.{Step, from_left, from_right, Leads}
 use Rattle.eb_arena.specs.Laws.{NodeTells}
 use Rattle.eb_arena.proofs.Ways.{LeafWay, leaf_way}
@@ -43,7 +43,7 @@ loose_node a ts q e h l u =
     ]
 
 -- a node of a tree is what hangs where it hangs
-node_held : (a : Parts) (e : ℕ) (t : Tree) (target : Target) (place : Place) → Stands a target place t → held a place ≡ target → HasNode e t → held a (element_at a e).node_p ≡ targets.Node e
+node_held : (a : Parts) (e : ℕ) (t : Tree) (target : Target) (place : Place) → Hangs a target place t → held a place ≡ target → HasNode e t → held a (element_at a e).node_p ≡ targets.Node e
 node_held a e (tip x k) target place s f g = absurd g
 node_held a e (fork i b l r) target place s f g =
     elim g [
@@ -60,7 +60,7 @@ way_not a q h place [] l f n k = let x : length a.elements + q ≡ h = sym (ap p
 way_not a q h place (from_left i b r ∷ w) l f n k = leads_somewhere a q (element_at a i).node_p w l.4 (ap (λ m. (element_at a m).node_p) (sym (ap place_index l.0) ∙ k) ∙ n)
 way_not a q h place (from_right i b r ∷ w) l f n k = leads_somewhere a q (element_at a i).node_p w l.4 (ap (λ m. (element_at a m).node_p) (sym (ap place_index l.0) ∙ k) ∙ n)
 
-target_in : (a : Parts) (target : Target) (place : Place) (t : Tree) → Stands a target place t → index_of target < length a.elements
+target_in : (a : Parts) (target : Target) (place : Place) (t : Tree) → Hangs a target place t → index_of target < length a.elements
 target_in a target place (tip e k) s = subst (λ n. n < length a.elements) (sym (ap index_of s.0)) s.1
 target_in a target place (fork i b l r) s = subst (λ n. n < length a.elements) (sym (ap index_of s.0)) s.1
 
@@ -70,13 +70,13 @@ replaceable a ts q e h l u =
     let w : NodeWay a q l.tree e = node_way a q l.tree [] _ _ e l.stands refl n in
     let i : Inner a e l.tree = inner a e l.tree _ _ l.stands n in
     let t : NodeTells a i.place e i.tree = node_tells a i.place e i.tree i.stands in
-    let whole : Stands a (targets.Node e) i.place (fork e (element_at a e).bit t.left t.right) = subst (Stands a (targets.Node e) i.place) t.tree_is i.stands in
+    let whole : Hangs a (targets.Node e) i.place (fork e (element_at a e).bit t.left t.right) = subst (Hangs a (targets.Node e) i.place) t.tree_is i.stands in
     record {
       entry_exists = l.entry_exists;
       heir_exists = l.heir_exists;
       differ = λ k. u (ap (λ m. (element_at a m).node_p) k ∙ l.unused);
-      left_some = λ k. nothing_stands a (places.Under e sides.Left) t.left (subst (λ m. Stands a m (places.Under e sides.Left) t.left) k t.left_stands);
-      right_some = λ k. nothing_stands a (places.Under e sides.Right) t.right (subst (λ m. Stands a m (places.Under e sides.Right) t.right) k t.right_stands);
+      left_some = λ k. nothing_stands a (places.Under e sides.Left) t.left (subst (λ m. Hangs a m (places.Under e sides.Left) t.left) k t.left_stands);
+      right_some = λ k. nothing_stands a (places.Under e sides.Right) t.right (subst (λ m. Hangs a m (places.Under e sides.Right) t.right) k t.right_stands);
       left_exists = target_in a (element_at a e).left (places.Under e sides.Left) t.left t.left_stands;
       right_exists = target_in a (element_at a e).right (places.Under e sides.Right) t.right t.right_stands;
       left_up = up_of_is a (element_at a e).left (places.Under e sides.Left) t.left t.left_stands;
@@ -108,7 +108,7 @@ other_root a z e h q None r g n k =
     let no : link_at a q ≡ targets.Node e → (element_at a e).node_p ≡ root_place a q = λ y. let x : targets.Nothing ≡ targets.Node e = sym k ∙ y in cc in
     root_renamed a z e h q r g no ∙ ap (renamed_target e h) k
 other_root a z e h q (Some t) r g n k =
-    (subst (Stands z (link_at z q) (root_place z q)) (renamed_none e h t (no_node a q e (Some t) k n)) (root_stands a z e h q t r g k.0), k.1)
+    (subst (Hangs z (link_at z q) (root_place z q)) (renamed_none e h t (no_node a q e (Some t) k n)) (root_stands a z e h q t r g k.0), k.1)
 
 -- what a tree has is in the trees afterwards
 later : (ts : ℕ → Option Tree) (q r : ℕ) (t u : Tree) (P : Tree → Type 0) → ts q ≡ Some t → (P t → P u) → IsSomeAnd (ts r) P → IsSomeAnd (with_tree ts q (Some u) r) P

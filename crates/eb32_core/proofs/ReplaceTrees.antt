@@ -9,7 +9,7 @@ use Rattle.eb_arena.specs.declared.links.Place.{Place}
 use Rattle.eb_arena.specs.declared.links.Place.TheVariants as places
 use Rattle.eb_arena.specs.Links.{index_of, place_index}
 use Rattle.eb_arena.specs.Parts.{Parts, element_at, link_at, child, up_of}
-use Rattle.eb_arena.specs.Shape.{Tree, tip, fork, Stands, root_place}
+use Rattle.eb_arena.specs.Shape.{Tree, tip, fork, Hangs, root_place}
 use Rattle.eb_dups.proofs.Ending.{up_of_is}
 use Rattle.eb32_core.specs.Removal.{renamed}
 use Rattle.eb32_core.proofs.ReplaceHeld.{held, held_node, held_root}
@@ -87,7 +87,7 @@ bit_at a z e h i g n =
     ]
 
 -- what hangs at a side of a node
-child_at : (a z : Parts) (e h i : ℕ) (s : Side) (t : Tree) → Replaceable a e h → Replacing a z e h → (i ≡ h → ⊥) → i < length a.elements → Stands a (child s (element_at a i)) (places.Under i s) t → child s (element_at z (renamed_index e h i)) ≡ renamed_target e h (child s (element_at a i))
+child_at : (a z : Parts) (e h i : ℕ) (s : Side) (t : Tree) → Replaceable a e h → Replacing a z e h → (i ≡ h → ⊥) → i < length a.elements → Hangs a (child s (element_at a i)) (places.Under i s) t → child s (element_at z (renamed_index e h i)) ≡ renamed_target e h (child s (element_at a i))
 child_at a z e h i s t r g n f k =
     let j : ℕ = renamed_index e h i in
     let fj : j < length z.elements = subst (λ m. j < m) (sym g.count) (index_fits a e h i r.heir_exists f) in
@@ -96,7 +96,7 @@ child_at a z e h i s t r g n f k =
     sym (held_node z j s fj) ∙ (held_at a z e h (places.Under i s) r g n (λ y. ap (up_of a) (sym y ∙ c) ∙ up) ∙ ap (renamed_target e h) c)
 
 -- a tree that stands: afterwards the tree of the new names does
-pub renamed_stands : (a z : Parts) (e h : ℕ) (t : Tree) (target : Target) (place : Place) → Replaceable a e h → Replacing a z e h → Stands a target place t → held a place ≡ target → Stands z (renamed_target e h target) (renamed_place e h place) (renamed e h t)
+pub renamed_stands : (a z : Parts) (e h : ℕ) (t : Tree) (target : Target) (place : Place) → Replaceable a e h → Replacing a z e h → Hangs a target place t → held a place ≡ target → Hangs z (renamed_target e h target) (renamed_place e h place) (renamed e h t)
 renamed_stands a z e h (tip x k) target place r g s f = (
   ap (renamed_target e h) s.0,
   subst (λ m. x < m) (sym g.count) s.1,
@@ -109,14 +109,14 @@ renamed_stands a z e h (fork i b l t) target place r g s f =
     let x : targets.Nothing ≡ targets.Node i = ap (held a) (sym p) ∙ (f ∙ s.0) in
     cc
     in
-    let left : Stands z (renamed_target e h (element_at a i).left) (places.Under (renamed_index e h i) sides.Left) (renamed e h l) = renamed_stands a z e h l (element_at a i).left (places.Under i sides.Left) r g s.4 (held_node a i sides.Left s.1) in
-    let right : Stands z (renamed_target e h (element_at a i).right) (places.Under (renamed_index e h i) sides.Right) (renamed e h t) = renamed_stands a z e h t (element_at a i).right (places.Under i sides.Right) r g s.5 (held_node a i sides.Right s.1) in (
+    let left : Hangs z (renamed_target e h (element_at a i).left) (places.Under (renamed_index e h i) sides.Left) (renamed e h l) = renamed_stands a z e h l (element_at a i).left (places.Under i sides.Left) r g s.4 (held_node a i sides.Left s.1) in
+    let right : Hangs z (renamed_target e h (element_at a i).right) (places.Under (renamed_index e h i) sides.Right) (renamed e h t) = renamed_stands a z e h t (element_at a i).right (places.Under i sides.Right) r g s.5 (held_node a i sides.Right s.1) in (
       ap (renamed_target e h) s.0,
       subst (λ m. renamed_index e h i < m) (sym g.count) (index_fits a e h i r.heir_exists s.1),
       up_at a z e h (targets.Node i) place r g s.2 (f ∙ s.0),
       bit_at a z e h i g n ∙ s.3,
-      subst (λ m. Stands z m (places.Under (renamed_index e h i) sides.Left) (renamed e h l)) (sym (child_at a z e h i sides.Left l r g n s.1 s.4)) left,
-      subst (λ m. Stands z m (places.Under (renamed_index e h i) sides.Right) (renamed e h t)) (sym (child_at a z e h i sides.Right t r g n s.1 s.5)) right,
+      subst (λ m. Hangs z m (places.Under (renamed_index e h i) sides.Left) (renamed e h l)) (sym (child_at a z e h i sides.Left l r g n s.1 s.4)) left,
+      subst (λ m. Hangs z m (places.Under (renamed_index e h i) sides.Right) (renamed e h t)) (sym (child_at a z e h i sides.Right t r g n s.1 s.5)) right,
     )
 
 pub root_held : (a : Parts) (q : ℕ) → held a (root_place a q) ≡ link_at a q
@@ -133,8 +133,8 @@ root_renamed a z e h q r g f =
     sym (root_held z q) ∙ (ap (held z) (p ∙ sym (root_place_same a e h q r.entry_exists)) ∙ (held_at a z e h (root_place a q) r g n (λ k. f (sym c ∙ k)) ∙ ap (renamed_target e h) c))
 
 -- the tree of a root
-pub root_stands : (a z : Parts) (e h q : ℕ) (t : Tree) → Replaceable a e h → Replacing a z e h → Stands a (link_at a q) (root_place a q) t → Stands z (link_at z q) (root_place z q) (renamed e h t)
+pub root_stands : (a z : Parts) (e h q : ℕ) (t : Tree) → Replaceable a e h → Replacing a z e h → Hangs a (link_at a q) (root_place a q) t → Hangs z (link_at z q) (root_place z q) (renamed e h t)
 root_stands a z e h q t r g s =
     let l : link_at z q ≡ renamed_target e h (link_at a q) = root_renamed a z e h q r g (λ k. ap (up_of a) (sym k) ∙ up_of_is a (link_at a q) (root_place a q) t s) in
     let p : renamed_place e h (root_place a q) ≡ root_place z q = root_place_same a e h q r.entry_exists ∙ ap (λ m. places.Under (m + q) sides.Left) (sym g.count) in
-    subst (λ m. Stands z m (root_place z q) (renamed e h t)) (sym l) (subst (λ m. Stands z (renamed_target e h (link_at a q)) m (renamed e h t)) p (renamed_stands a z e h t (link_at a q) (root_place a q) r g s (root_held a q)))
+    subst (λ m. Hangs z m (root_place z q) (renamed e h t)) (sym l) (subst (λ m. Hangs z (renamed_target e h (link_at a q)) m (renamed e h t)) p (renamed_stands a z e h t (link_at a q) (root_place a q) r g s (root_held a q)))

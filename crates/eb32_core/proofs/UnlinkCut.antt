@@ -7,7 +7,7 @@ use Rattle.eb_arena.specs.declared.links.Place.{Place}
 use Rattle.eb_arena.specs.declared.links.Place.TheVariants as places
 use Rattle.eb_arena.specs.Links.{index_of, opposite}
 use Rattle.eb_arena.specs.Parts.{Parts, element_at, link_at}
-use Rattle.eb_arena.specs.Shape.{Tree, tip, fork, Stands, Split, HasLeaf, HasNode, root_place}
+use Rattle.eb_arena.specs.Shape.{Tree, tip, fork, Hangs, Split, HasLeaf, HasNode, root_place}
 use Rattle.eb_arena.specs.Way.{Step, plug, Leads}
 use Rattle.eb_arena.specs.Laws.{SameLeaf, SameOn}
 use Rattle.eb_arena.proofs.Frame.{kept, moved}
@@ -21,10 +21,10 @@ use Rattle.eb32_core.proofs.UnlinkWrites.{loosened, raised, CutLeaf, CutNode, sp
 -- a leaf of root q's tree with a node above it, on whose other side is a part
 pub record Hanging (a : Parts) (q : ℕ) (w : List Step) (side : Side) (e p k : ℕ) (b : ℤ) (part : Target) (u : Tree) : Type 0 where
   pub root : q < length a.links
-  pub whole : Stands a (link_at a q) (root_place a q) (plug w (paired side p b (tip e k) u))
+  pub whole : Hangs a (link_at a q) (root_place a q) (plug w (paired side p b (tip e k) u))
   pub split : Split (plug w (paired side p b (tip e k) u))
   pub leads : Leads a q (element_at a p).node_p w
-  pub stands : Stands a part (places.Under p (opposite side)) u
+  pub stands : Hangs a part (places.Under p (opposite side)) u
   pub leaf_in : e < length a.elements
   pub node_in : p < length a.elements
 
@@ -33,7 +33,7 @@ pub record Cut (a z : Parts) (q : ℕ) (w : List Step) (e p : ℕ) (part : Targe
   pub count : length z.elements ≡ length a.elements
   pub roots : length z.links ≡ length a.links
   pub loose : Loose z e p
-  pub stands : Stands z (link_at z q) (root_place z q) (plug w u)
+  pub stands : Hangs z (link_at z q) (root_place z q) (plug w u)
   pub others : (r : ℕ) → (r ≡ q → ⊥) → link_at z r ≡ link_at a r
   pub leaves : (x : ℕ) → (CutLeaf e part x → ⊥) → SameLeaf a z x
   pub nodes : (x : ℕ) → (CutNode p part x → ⊥) → (element_at z x).node_p ≡ (element_at a x).node_p
@@ -44,13 +44,13 @@ pub record Raised (a c : Parts) (w : List Step) (side : Side) (e p k : ℕ) (b :
   pub spares : Spares a c (CutLeaf e part) (CutNode p part)
   pub links : c.links ≡ a.links
   pub loose : Loose c e p
-  pub stands : Stands c part above u
+  pub stands : Hangs c part above u
   pub whole : Distinct (plug w (paired side p b (tip e k) u))
   pub leaf_there : (x : ℕ) → CutLeaf e part x → HasLeaf x (paired side p b (tip e k) u)
   pub node_there : (x : ℕ) → CutNode p part x → HasNode x (paired side p b (tip e k) u)
 
 -- a part of a tree is an element
-pub part_in : (a : Parts) (part : Target) (place : Place) (s : Tree) → Stands a part place s → index_of part < length a.elements
+pub part_in : (a : Parts) (part : Target) (place : Place) (s : Tree) → Hangs a part place s → index_of part < length a.elements
 part_in a part place (tip e k) s = subst (λ n. n < length a.elements) (sym (ap index_of s.0)) s.1
 part_in a part place (fork i b l r) s = subst (λ n. n < length a.elements) (sym (ap index_of s.0)) s.1
 

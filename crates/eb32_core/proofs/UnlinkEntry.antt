@@ -10,7 +10,7 @@ use Rattle.eb_arena.specs.declared.links.Place.{Place}
 use Rattle.eb_arena.specs.declared.links.Place.TheVariants as places
 use Rattle.eb_arena.specs.Links.{index_of, is_nowhere, place_index, place_side, opposite}
 use Rattle.eb_arena.specs.Parts.{Parts, element_at, link_at, child}
-use Rattle.eb_arena.specs.Shape.{Tree, tip, fork, Stands, Split, HasLeaf, IsRoot, root_place, InSome, Shape, HasShape}
+use Rattle.eb_arena.specs.Shape.{Tree, tip, fork, Hangs, Split, HasLeaf, IsRoot, root_place, InSome, Shape, HasShape}
 use Rattle.eb_arena.specs.Way.{Step, from_left, from_right, plug, Leads}
 use Rattle.eb_arena.proofs.Ways.{LeafWay, leaf_way, part_split}
 use Rattle.eb_arena.proofs.Unique.{leads_somewhere}
@@ -37,7 +37,7 @@ pub record Foot (a : Parts) (q : ℕ) (t : Tree) (e : ℕ) (place : Place) : Typ
   pub whole_is : plug way (paired (place_side place) (place_index place) bit (tip e (element_at a e).key) far) ≡ t
   pub hanging : Hanging a q way (place_side place) e (place_index place) (element_at a e).key bit (beside a place) far
 
-foot_on : (a : Parts) (q : ℕ) (t : Tree) (e : ℕ) (place : Place) (w : List Step) → q < length a.links → Stands a (link_at a q) (root_place a q) t → Split t → Leads a q place w → plug w (tip e (element_at a e).key) ≡ t → e < length a.elements → place_index place < length a.elements → Foot a q t e place
+foot_on : (a : Parts) (q : ℕ) (t : Tree) (e : ℕ) (place : Place) (w : List Step) → q < length a.links → Hangs a (link_at a q) (root_place a q) t → Split t → Leads a q place w → plug w (tip e (element_at a e).key) ≡ t → e < length a.elements → place_index place < length a.elements → Foot a q t e place
 foot_on a q t e place [] f s p l is fe fp = let x : place_index place ≡ length a.elements + q = ap place_index l in absurd (omega arith)
 foot_on a q t e place (from_left i b r ∷ w) f s p l is fe fp =
     let x : Foot a q t e (places.Under i sides.Left) = record {
@@ -45,7 +45,7 @@ foot_on a q t e place (from_left i b r ∷ w) f s p l is fe fp =
       bit = b;
       far = r;
       whole_is = is;
-      hanging = record { root = f; whole = subst (Stands a (link_at a q) (root_place a q)) (sym is) s; split = subst Split (sym is) p; leads = l.4; stands = l.3; leaf_in = fe; node_in = l.1 };
+      hanging = record { root = f; whole = subst (Hangs a (link_at a q) (root_place a q)) (sym is) s; split = subst Split (sym is) p; leads = l.4; stands = l.3; leaf_in = fe; node_in = l.1 };
     } in
     subst (Foot a q t e) (sym l.0) x
 foot_on a q t e place (from_right i b r ∷ w) f s p l is fe fp =
@@ -54,7 +54,7 @@ foot_on a q t e place (from_right i b r ∷ w) f s p l is fe fp =
       bit = b;
       far = r;
       whole_is = is;
-      hanging = record { root = f; whole = subst (Stands a (link_at a q) (root_place a q)) (sym is) s; split = subst Split (sym is) p; leads = l.4; stands = l.3; leaf_in = fe; node_in = l.1 };
+      hanging = record { root = f; whole = subst (Hangs a (link_at a q) (root_place a q)) (sym is) s; split = subst Split (sym is) p; leads = l.4; stands = l.3; leaf_in = fe; node_in = l.1 };
     } in
     subst (Foot a q t e) (sym l.0) x
 
@@ -86,7 +86,7 @@ pub record MayUnlink (a : Parts) (e : ℕ) (place : Place) : Type 0 where
   pub above_exists : place_index (element_at a (place_index place)).node_p < length a.elements + length a.links
   pub above_left : length a.elements ≤ place_index (element_at a (place_index place)).node_p → place_side (element_at a (place_index place)).node_p ≡ sides.Left
 
-part_some : (a : Parts) (part : Target) (place : Place) (t : Tree) → Stands a part place t → part ≡ targets.Nothing → ⊥
+part_some : (a : Parts) (part : Target) (place : Place) (t : Tree) → Hangs a part place t → part ≡ targets.Nothing → ⊥
 part_some a part place (tip e k) s h = let z : targets.Nothing ≡ targets.Leaf e = sym h ∙ s.0 in cc
 part_some a part place (fork i b l r) s h = let z : targets.Nothing ≡ targets.Node i = sym h ∙ s.0 in cc
 

@@ -12,7 +12,7 @@ use Rattle.eb_arena.specs.declared.links.Place.TheVariants as places
 use Rattle.eb_arena.specs.declared.element.Element.{Element}
 use Rattle.eb_arena.specs.Links.{opposite}
 use Rattle.eb_arena.specs.Parts.{Parts, element_at, link_at, with_element, with_link, child, with_child, linked}
-use Rattle.eb_arena.specs.Shape.{Tree, tip, Stands, HasLeaf, HasNode, root_place}
+use Rattle.eb_arena.specs.Shape.{Tree, tip, Hangs, HasLeaf, HasNode, root_place}
 use Rattle.eb_arena.specs.Way.{Step, from_left, from_right, plug}
 use Rattle.eb_arena.specs.Laws.{SameNode}
 use Rattle.eb_arena.proofs.Frame.{kept, at_set}
@@ -43,13 +43,13 @@ root_cut a q side e p k b part u h =
     let there : q < length c.links = subst (λ y. q < length y) (sym r.links) h.root in
     let lk : link_at z q ≡ part = get_or-set_same c.links q part targets.Nothing there in
     let o : place ≡ root_place z q = ap (λ y. places.Under (y + q) sides.Left) (sym n) in
-    let st : Stands z part place u = kept c z part place u refl (spares_on c z (λ x. ⊥) (λ x. ⊥) u l (λ x y v. y) (λ x y v. y)) r.stands in
+    let st : Hangs z part place u = kept c z part place u refl (spares_on c z (λ x. ⊥) (λ x. ⊥) u l (λ x y v. y) (λ x y v. y)) r.stands in
     let is : linked c place part ≡ z = ap (λ y. linked c (places.Under (y + q) sides.Left) part) (sym r.spares.count) ∙ linked_root c q sides.Left part in
     let x : Cut a z q [] e p part s u = record {
       count = n;
       roots = length-set c.links q part ∙ ap length r.links;
       loose = loose_later c z (λ x. ⊥) (λ x. ⊥) e p l (λ y. y) (λ y. y) r.loose;
-      stands = subst (λ y. Stands z y (root_place z q) u) (sym lk) (subst (λ y. Stands z part y u) o st);
+      stands = subst (λ y. Hangs z y (root_place z q) u) (sym lk) (subst (λ y. Hangs z part y u) o st);
       others = λ y ne. get_or-set_other c.links q y part targets.Nothing ne ∙ ap (λ v. get_or v y targets.Nothing) r.links;
       leaves = λ y f. t.leaves y f;
       nodes = λ y f. (t.nodes y f).node_p;
@@ -58,7 +58,7 @@ root_cut a q side e p k b part u h =
     subst (λ y. Cut a y q [] e p part s u) (sym is) x
 
 -- the part comes to a side of a node
-node_cut : (a : Parts) (q : ℕ) (far_side : Side) (i : ℕ) (c : ℤ) (r : Tree) (w : List Step) (side : Side) (e p k : ℕ) (b : ℤ) (part : Target) (u : Tree) → Hanging a q (step far_side i c r ∷ w) side e p k b part u → i < length a.elements → Stands a (child (opposite far_side) (element_at a i)) (places.Under i (opposite far_side)) r → Cut a (cut a e p part (places.Under i far_side)) q (step far_side i c r ∷ w) e p part (paired side p b (tip e k) u) u
+node_cut : (a : Parts) (q : ℕ) (far_side : Side) (i : ℕ) (c : ℤ) (r : Tree) (w : List Step) (side : Side) (e p k : ℕ) (b : ℤ) (part : Target) (u : Tree) → Hanging a q (step far_side i c r ∷ w) side e p k b part u → i < length a.elements → Hangs a (child (opposite far_side) (element_at a i)) (places.Under i (opposite far_side)) r → Cut a (cut a e p part (places.Under i far_side)) q (step far_side i c r ∷ w) e p part (paired side p b (tip e k) u) u
 node_cut a q far_side i c r w side e p k b part u h fi fr =
     let place : Place = places.Under i far_side in
     let s : Tree = paired side p b (tip e k) u in
@@ -80,21 +80,21 @@ node_cut a q far_side i c r w side e p k b part u h fi fr =
     let bit : (element_at z i).bit ≡ (element_at a i).bit = ap (λ y. y.bit) at ∙ (ch.bit ∙ same.bit) in
     let near : child far_side (element_at z i) ≡ part = ap (child far_side) at ∙ ch.near in
     let far : child (opposite far_side) (element_at z i) ≡ child (opposite far_side) (element_at a i) = ap (child (opposite far_side)) at ∙ (ch.far ∙ same_child (opposite far_side) a m i same) in
-    let near_stands : Stands z part place u = kept m z part place u l.count (spares_on m z (λ x. ⊥) (λ x. x ≡ i) u l (λ x y f. y) (λ x y f. v.near (subst (λ n. HasNode n s) y (pair_far_node side p x b (tip e k) u f)))) g.stands in
-    let far_stands : Stands z (child (opposite far_side) (element_at a i)) (places.Under i (opposite far_side)) r = kept a z _ _ r all.count (spares_on a z (λ x. CutLeaf e part x ⊎ ⊥) (λ x. CutNode p part x ⊎ (x ≡ i)) r all (λ x y f. elim y [ inl y ↦ v.share.leaves x (g.leaf_there x y) f | inr y ↦ y ]) (λ x y f. elim y [ inl y ↦ v.share.nodes x (g.node_there x y) f | inr y ↦ v.far (subst (λ n. HasNode n r) y f) ])) fr in
-    let top : (o : Target) (pl : Place) → Stands a o pl t → Stands z o pl (paired far_side i c u r) = λ o pl hs.
+    let near_stands : Hangs z part place u = kept m z part place u l.count (spares_on m z (λ x. ⊥) (λ x. x ≡ i) u l (λ x y f. y) (λ x y f. v.near (subst (λ n. HasNode n s) y (pair_far_node side p x b (tip e k) u f)))) g.stands in
+    let far_stands : Hangs z (child (opposite far_side) (element_at a i)) (places.Under i (opposite far_side)) r = kept a z _ _ r all.count (spares_on a z (λ x. CutLeaf e part x ⊎ ⊥) (λ x. CutNode p part x ⊎ (x ≡ i)) r all (λ x y f. elim y [ inl y ↦ v.share.leaves x (g.leaf_there x y) f | inr y ↦ y ]) (λ x y f. elim y [ inl y ↦ v.share.nodes x (g.node_there x y) f | inr y ↦ v.far (subst (λ n. HasNode n r) y f) ])) fr in
+    let top : (o : Target) (pl : Place) → Hangs a o pl t → Hangs z o pl (paired far_side i c u r) = λ o pl hs.
     let x : PairStands a far_side i c s r o pl = pair_stands a far_side i c s r o pl hs in
     stands_pair z far_side i c u r o pl (record {
       is = x.is;
       fits = subst (λ y. i < y) (sym all.count) x.fits;
       hangs = node_p ∙ x.hangs;
       bit = bit ∙ x.bit;
-      near = subst (λ y. Stands z y place u) (sym near) near_stands;
-      far = subst (λ y. Stands z y (places.Under i (opposite far_side)) r) (sym far) far_stands;
+      near = subst (λ y. Hangs z y place u) (sym near) near_stands;
+      far = subst (λ y. Hangs z y (places.Under i (opposite far_side)) r) (sym far) far_stands;
     })
     in
     let sw : SameWay a z w = spares_way a z (λ x. CutLeaf e part x ⊎ ⊥) (λ x. CutNode p part x ⊎ (x ≡ i)) w t all (away w t g.whole) leaf_up node_up in
-    let up : Stands z (link_at a q) (root_place a q) (plug w (paired far_side i c u r)) = lift a z w t (paired far_side i c u r) all.count sw top (link_at a q) (root_place a q) h.whole in
+    let up : Hangs z (link_at a q) (root_place a q) (plug w (paired far_side i c u r)) = lift a z w t (paired far_side i c u r) all.count sw top (link_at a q) (root_place a q) h.whole in
     let lk : link_at a q ≡ link_at z q = ap (λ y. get_or y q targets.Nothing) (sym g.links) in
     let o : root_place a q ≡ root_place z q = ap (λ y. places.Under (y + q) sides.Left) (sym all.count) in
     let is : LinkedNode m (linked m place part) i far_side part = linked_node m i far_side part fm in
@@ -102,7 +102,7 @@ node_cut a q far_side i c r w side e p k b part u h fi fr =
       count = all.count;
       roots = ap length g.links;
       loose = loose_later m z (λ x. ⊥) (λ x. x ≡ i) e p l (λ y. y) (λ y. v.near (subst (λ n. HasNode n s) y (pair_top side p p b (tip e k) u refl))) g.loose;
-      stands = subst (λ y. Stands z y (root_place z q) (plug w (paired far_side i c u r))) lk (subst (λ y. Stands z (link_at a q) y (plug w (paired far_side i c u r))) o up);
+      stands = subst (λ y. Hangs z y (root_place z q) (plug w (paired far_side i c u r))) lk (subst (λ y. Hangs z (link_at a q) y (plug w (paired far_side i c u r))) o up);
       others = λ y ne. ap (λ n. get_or n y targets.Nothing) g.links;
       leaves = λ y f. all.leaves y (λ n. elim n [ inl n ↦ f n | inr n ↦ n ]);
       nodes = λ y f. elim (cases_eq y i) [

@@ -10,7 +10,7 @@ use Rattle.eb_arena.specs.declared.links.Place.TheVariants as places
 use Rattle.eb_arena.specs.declared.element.Element.{Element}
 use Rattle.eb_arena.specs.Links.{opposite}
 use Rattle.eb_arena.specs.Parts.{Parts, element_at, child, with_child}
-use Rattle.eb_arena.specs.Shape.{Tree, Stands, HasLeaf, HasNode}
+use Rattle.eb_arena.specs.Shape.{Tree, Hangs, HasLeaf, HasNode}
 use Rattle.eb_arena.specs.Way.{Step, from_left, from_right, fill, Leads}
 use Rattle.eb_dups.proofs.Distinct.{NoShare, Distinct}
 use Rattle.eb32_core.specs.Removal.{step, paired}
@@ -53,14 +53,14 @@ pub record PairStands (a : Parts) (side : Side) (i : ℕ) (b : ℤ) (t u : Tree)
   pub fits : i < length a.elements
   pub hangs : (element_at a i).node_p ≡ place
   pub bit : (element_at a i).bit ≡ b
-  pub near : Stands a (child side (element_at a i)) (places.Under i side) t
-  pub far : Stands a (child (opposite side) (element_at a i)) (places.Under i (opposite side)) u
+  pub near : Hangs a (child side (element_at a i)) (places.Under i side) t
+  pub far : Hangs a (child (opposite side) (element_at a i)) (places.Under i (opposite side)) u
 
-pub pair_stands : (a : Parts) (side : Side) (i : ℕ) (b : ℤ) (t u : Tree) (target : Target) (place : Place) → Stands a target place (paired side i b t u) → PairStands a side i b t u target place
+pub pair_stands : (a : Parts) (side : Side) (i : ℕ) (b : ℤ) (t u : Tree) (target : Target) (place : Place) → Hangs a target place (paired side i b t u) → PairStands a side i b t u target place
 pair_stands a sides.Left i b t u target place s = record { is = s.0; fits = s.1; hangs = s.2; bit = s.3; near = s.4; far = s.5 }
 pair_stands a sides.Right i b t u target place s = record { is = s.0; fits = s.1; hangs = s.2; bit = s.3; near = s.5; far = s.4 }
 
-pub stands_pair : (a : Parts) (side : Side) (i : ℕ) (b : ℤ) (t u : Tree) (target : Target) (place : Place) → PairStands a side i b t u target place → Stands a target place (paired side i b t u)
+pub stands_pair : (a : Parts) (side : Side) (i : ℕ) (b : ℤ) (t u : Tree) (target : Target) (place : Place) → PairStands a side i b t u target place → Hangs a target place (paired side i b t u)
 stands_pair a sides.Left i b t u target place s = (s.is, s.fits, s.hangs, s.bit, s.near, s.far)
 stands_pair a sides.Right i b t u target place s = (s.is, s.fits, s.hangs, s.bit, s.far, s.near)
 
@@ -69,7 +69,7 @@ pub record StepLeads (a : Parts) (q : ℕ) (side : Side) (i : ℕ) (b : ℤ) (u 
   pub place_is : place ≡ places.Under i side
   pub fits : i < length a.elements
   pub bit : (element_at a i).bit ≡ b
-  pub far : Stands a (child (opposite side) (element_at a i)) (places.Under i (opposite side)) u
+  pub far : Hangs a (child (opposite side) (element_at a i)) (places.Under i (opposite side)) u
   pub up : Leads a q (element_at a i).node_p w
 
 pub step_leads : (a : Parts) (q : ℕ) (side : Side) (i : ℕ) (b : ℤ) (u : Tree) (w : List Step) (place : Place) → Leads a q place (step side i b u ∷ w) → StepLeads a q side i b u w place

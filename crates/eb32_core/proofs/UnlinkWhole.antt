@@ -10,7 +10,7 @@ use Rattle.eb_arena.specs.declared.links.Place.{Place}
 use Rattle.eb_arena.specs.declared.links.Place.TheVariants as places
 use Rattle.eb_arena.specs.Links.{index_of, opposite}
 use Rattle.eb_arena.specs.Parts.{Parts, element_at, link_at}
-use Rattle.eb_arena.specs.Shape.{Tree, tip, fork, items_of, Stands, HasLeaf, HasNode, IsRoot, root_place, InSome, Shape}
+use Rattle.eb_arena.specs.Shape.{Tree, tip, fork, items_of, Hangs, HasLeaf, HasNode, IsRoot, root_place, InSome, Shape}
 use Rattle.eb_arena.specs.Way.{Step, from_left, from_right, plug}
 use Rattle.eb_arena.specs.Laws.{SameLeaf}
 use Rattle.eb_arena.proofs.Frame.{kept}
@@ -68,9 +68,9 @@ other_root : (a z : Parts) (q : ℕ) (w : List Step) (side : Side) (e p k : ℕ)
 other_root a z q w side e p k b part u r None h c n i = c.others r n ∙ i
 other_root a z q w side e p k b part u r (Some t) h c n i =
     let ns : NoShare (plug w (paired side p b (tip e k) u)) t = roots_apart a q r _ _ (plug w (paired side p b (tip e k) u)) t h.whole i.0 h.split i.1 (λ y. n (sym y)) in
-    let s : Stands z (link_at a r) (root_place a r) t = kept a z _ _ t c.count (c.away_from t ns) i.0 in
+    let s : Hangs z (link_at a r) (root_place a r) t = kept a z _ _ t c.count (c.away_from t ns) i.0 in
     let o : root_place a r ≡ root_place z r = ap (λ y. places.Under (y + r) sides.Left) (sym c.count) in
-    (subst (λ y. Stands z y (root_place z r) t) (sym (c.others r n)) (subst (λ y. Stands z (link_at a r) y t) o s), i.1)
+    (subst (λ y. Hangs z y (root_place z r) t) (sym (c.others r n)) (subst (λ y. Hangs z (link_at a r) y t) o s), i.1)
 
 -- the arena after the cut is as the contract says
 pub unlinked_by : (a z : Parts) (ts : ℕ → Option Tree) (q : ℕ) (w : List Step) (side : Side) (e p k : ℕ) (b : ℤ) (part : Target) (u : Tree) → Shape a ts → ts q ≡ Some (plug w (paired side p b (tip e k) u)) → Hanging a q w side e p k b part u → Cut a z q w e p part (paired side p b (tip e k) u) u → Unlinked a z ts q e p

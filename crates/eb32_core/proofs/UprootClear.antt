@@ -11,7 +11,7 @@ use Rattle.eb_arena.specs.declared.links.Place.TheVariants as places
 use Rattle.eb_arena.specs.declared.element.Element.{Element}
 use Rattle.eb_arena.specs.Links.{index_of, place_index, place_side}
 use Rattle.eb_arena.specs.Parts.{Parts, element_at, link_at, with_link, hung, linked}
-use Rattle.eb_arena.specs.Shape.{Tree, tip, fork, items_of, Stands, HasLeaf, HasNode, IsRoot, root_place, Shape, HasShape, InSome}
+use Rattle.eb_arena.specs.Shape.{Tree, tip, fork, items_of, Hangs, HasLeaf, HasNode, IsRoot, root_place, Shape, HasShape, InSome}
 use Rattle.eb_arena.specs.Way.{Step, from_left, from_right, plug, Leads}
 use Rattle.eb_arena.specs.Laws.{SameLeaf, SameNode, SameOn}
 use Rattle.eb_arena.proofs.Ways.{LeafWay, leaf_way}
@@ -80,8 +80,8 @@ other_root a q r e (Some u) s f n h =
     let l : link_at a r ≡ link_at z r = sym (get_or-set_other a.links q r targets.Nothing targets.Nothing n) in
     let p : root_place a r ≡ root_place z r = ap (λ y. places.Under (y + r) sides.Left) (sym c) in
     let ns : NoShare t u = roots_apart a q r (link_at a q) (link_at a r) t u s.0 h.0 s.1 h.1 (λ k. n (sym k)) in
-    let k : Stands z (link_at a r) (root_place a r) u = kept a z (link_at a r) (root_place a r) u c (same_without a q e u f (λ g. ns.leaves e refl g)) h.0 in
-    (subst (λ y. Stands z y (root_place z r) u) l (subst (λ y. Stands z (link_at a r) y u) p k), h.1)
+    let k : Hangs z (link_at a r) (root_place a r) u = kept a z (link_at a r) (root_place a r) u c (same_without a q e u f (λ g. ns.leaves e refl g)) h.0 in
+    (subst (λ y. Hangs z y (root_place z r) u) l (subst (λ y. Hangs z (link_at a r) y u) p k), h.1)
 
 -- what is in a tree, and not in that of the root, is in it afterwards
 still : (ts : ℕ → Option Tree) (q r : ℕ) (t : Tree) (P : Tree → Type 0) → ts q ≡ Some t → (P t → ⊥) → IsSomeAnd (ts r) P → IsSomeAnd (with_tree ts q None r) P

@@ -5,7 +5,7 @@ use Rattle.std.proofs.lemmas.Bool.{cases_eq}
 use Rattle.eb_arena.specs.declared.links.Place.TheVariants as places
 use Rattle.eb_arena.specs.Links.{is_nowhere, place_index}
 use Rattle.eb_arena.specs.Parts.{Parts, element_at, link_at}
-use Rattle.eb_arena.specs.Shape.{Tree, Stands, Split, HasLeaf, HasNode, IsRoot, root_place, Shape, InSome}
+use Rattle.eb_arena.specs.Shape.{Tree, Hangs, Split, HasLeaf, HasNode, IsRoot, root_place, Shape, InSome}
 use Rattle.eb_arena.proofs.Unique.{NodeWay, node_way, leads_somewhere}
 use Rattle.eb_dups.specs.Grown.{with_tree}
 use Rattle.eb_dups.proofs.Regrown.{tree_at}
@@ -50,7 +50,7 @@ replaced_uproots a b z e h u r ts q sh f s =
     replaced_uprooted a b z ts q e h x (r (with_tree ts q (Some x.after)) q x.loose)
 
 -- the node of the entry is in use no more
-no_node : (a : Parts) (q e : ℕ) (t : Tree) → Stands a (link_at a q) (root_place a q) t → (element_at a e).node_p ≡ places.Nowhere → HasNode e t → ⊥
+no_node : (a : Parts) (q e : ℕ) (t : Tree) → Hangs a (link_at a q) (root_place a q) t → (element_at a e).node_p ≡ places.Nowhere → HasNode e t → ⊥
 no_node a q e t s n g =
     let w : NodeWay a q t e = node_way a q t [] (link_at a q) (root_place a q) e s refl g in
     leads_somewhere a q (element_at a e).node_p w.way w.leads n
@@ -76,7 +76,7 @@ unlinked_uproots a b e h u n ts q sh f s =
     let x : Unlinked a b ts q e h = u ts q sh f s in
     let l : IsLoose b (with_tree ts q (Some x.after)) q e h = x.loose in
     let same : l.tree ≡ x.after = same_some l.tree x.after (sym l.tree_is ∙ tree_at ts q (Some x.after)) in
-    let stands : Stands b (link_at b q) (root_place b q) x.after = subst (Stands b (link_at b q) (root_place b q)) same l.stands in
+    let stands : Hangs b (link_at b q) (root_place b q) x.after = subst (Hangs b (link_at b q) (root_place b q)) same l.stands in
     record {
       after = Some x.after;
       elements = x.elements;

@@ -9,7 +9,7 @@ use Rattle.eb_arena.specs.declared.element.Element.{Element}
 use Rattle.eb_arena.specs.Links.{is_nowhere, place_index}
 use Rattle.eb_arena.specs.Way.{Step, from_left, from_right, fill, plug}
 use Rattle.eb_arena.specs.Parts.{Parts, element_at, link_at}
-use Rattle.eb_arena.specs.Shape.{Tree, tip, fork, items, items_of, Stands, Split, HasLeaf, HasNode, IsRoot, InSome, Shape, root_place}
+use Rattle.eb_arena.specs.Shape.{Tree, tip, fork, items, items_of, Hangs, Split, HasLeaf, HasNode, IsRoot, InSome, Shape, root_place}
 use Rattle.eb_dups.specs.Grown.{with_tree}
 use Rattle.eb_dups.specs.Spine.{spine_of}
 use Rattle.eb32_core.specs.Planted.{spine_in}
@@ -34,7 +34,7 @@ pub record IsLoose (a : Parts) (trees : ℕ → Option Tree) (root entry heir : 
   pub exists : root < length a.links
   pub tree : Tree
   pub tree_is : trees root ≡ Some tree
-  pub stands : Stands a (link_at a root) (root_place a root) tree
+  pub stands : Hangs a (link_at a root) (root_place a root) tree
   pub split : Split (renamed entry heir tree)
   pub others : (q : ℕ) → q < length a.links → (q ≡ root → ⊥) → IsRoot a q (trees q)
   pub leaves : (i : ℕ) → i < length a.elements → (element_at a i).leaf_p ≢ places.Nowhere → InSome a trees (HasLeaf i)

@@ -10,7 +10,7 @@ use Rattle.eb_arena.specs.declared.links.Place.{Place}
 use Rattle.eb_arena.specs.declared.links.Place.TheVariants as places
 use Rattle.eb_arena.specs.Links.{index_of}
 use Rattle.eb_arena.specs.Parts.{Parts, element_at, child}
-use Rattle.eb_arena.specs.Shape.{Tree, tip, fork, items, Stands, Split, list_below}
+use Rattle.eb_arena.specs.Shape.{Tree, tip, fork, items, Hangs, Split, list_below}
 use Rattle.eb_arena.proofs.Trees.{bit_rank, tree_rank, falls_left, falls_right}
 use Rattle.eb_arena.proofs.Reading.{list_below_is}
 use Rattle.eb32_walk.specs.Ends.{IsIn, IsTree, end_entry, last_entry}
@@ -22,7 +22,7 @@ target_rank a targets.Nothing = 0
 target_rank a (targets.Leaf i) = 0
 target_rank a (targets.Node i) = bit_rank (element_at a i).bit
 
-pub target_rank_is : (a : Parts) (target : Target) (place : Place) (t : Tree) → Stands a target place t → target_rank a target ≡ tree_rank t
+pub target_rank_is : (a : Parts) (target : Target) (place : Place) (t : Tree) → Hangs a target place t → target_rank a target ≡ tree_rank t
 target_rank_is a target place (tip e k) s = ap (target_rank a) s.0
 target_rank_is a target place (fork i b l r) s = ap (target_rank a) s.0 ∙ ap bit_rank s.3
 
@@ -48,11 +48,11 @@ end_first l r = let s : (e : ℕ) × (first_entry (items l) ≡ Some e) = has_fi
 end_last : (l r : Tree) → last_entry (items l ++ items r) ≡ last_entry (items r)
 end_last l r = let s : (e : ℕ) × (last_entry (items r) ≡ Some e) = has_last r in last_of (items l) (items r) s.0 s.1 ∙ sym s.1
 
-step_at : (a : Parts) (side : Side) (i : ℕ) (place : Place) (t : Tree) → Stands a (targets.Node i) place t → Split t → EndStep a side i
+step_at : (a : Parts) (side : Side) (i : ℕ) (place : Place) (t : Tree) → Hangs a (targets.Node i) place t → Split t → EndStep a side i
 step_at a side i place (tip e k) s p = let x : targets.Node i ≡ targets.Leaf e = s.0 in cc
 step_at a sides.Left i place (fork j b l r) s p =
     let e : j ≡ i = sym (ap index_of s.0) in
-    let h : Stands a (element_at a i).left (places.Under i sides.Left) l = subst (λ n. Stands a (element_at a n).left (places.Under n sides.Left) l) e s.4 in
+    let h : Hangs a (element_at a i).left (places.Under i sides.Left) l = subst (λ n. Hangs a (element_at a n).left (places.Under n sides.Left) l) e s.4 in
     let bit : (element_at a i).bit ≡ b = ap (λ n. (element_at a n).bit) (sym e) ∙ s.3 in
     let away : places.Under i sides.Left ≢ places.Nowhere = λ x. cc in
     record {
@@ -63,7 +63,7 @@ step_at a sides.Left i place (fork j b l r) s p =
     }
 step_at a sides.Right i place (fork j b l r) s p =
     let e : j ≡ i = sym (ap index_of s.0) in
-    let h : Stands a (element_at a i).right (places.Under i sides.Right) r = subst (λ n. Stands a (element_at a n).right (places.Under n sides.Right) r) e s.5 in
+    let h : Hangs a (element_at a i).right (places.Under i sides.Right) r = subst (λ n. Hangs a (element_at a n).right (places.Under n sides.Right) r) e s.5 in
     let bit : (element_at a i).bit ≡ b = ap (λ n. (element_at a n).bit) (sym e) ∙ s.3 in
     let away : places.Under i sides.Right ≢ places.Nowhere = λ x. cc in
     record {
@@ -81,7 +81,7 @@ pub record EndLeaf (a : Parts) (i : ℕ) : Type 0 where
   pub is_in : IsIn a i
   pub list : list_below a (targets.Leaf i) ≡ record { key = (element_at a i).key; entry = i } ∷ []
 
-leaf_at : (a : Parts) (i : ℕ) (place : Place) (t : Tree) → place ≢ places.Nowhere → Stands a (targets.Leaf i) place t → EndLeaf a i
+leaf_at : (a : Parts) (i : ℕ) (place : Place) (t : Tree) → place ≢ places.Nowhere → Hangs a (targets.Leaf i) place t → EndLeaf a i
 leaf_at a i place (tip e k) h s =
     let x : e ≡ i = sym (ap index_of s.0) in
     record { is_in = (subst (λ n. n < length a.elements) x s.1, λ g. h (sym s.2 ∙ (ap (λ n. (element_at a n).leaf_p) x ∙ g))); list = refl }
@@ -91,7 +91,7 @@ pub end_leaf : (a : Parts) (i : ℕ) → IsTree a (targets.Leaf i) → EndLeaf a
 end_leaf a i h = leaf_at a i h.place h.tree h.hangs h.stands
 
 -- nothing is no tree
-pub not_nothing : (a : Parts) (place : Place) (t : Tree) → Stands a targets.Nothing place t → ⊥
+pub not_nothing : (a : Parts) (place : Place) (t : Tree) → Hangs a targets.Nothing place t → ⊥
 not_nothing a place (tip e k) s = let x : targets.Nothing ≡ targets.Leaf e = s.0 in cc
 not_nothing a place (fork j b l r) s = let x : targets.Nothing ≡ targets.Node j = s.0 in cc
 
@@ -140,4 +140,4 @@ end_found a side part link e h n is same =
 
 -- a tree's target is not nothing
 pub some_target : (a : Parts) (part : Target) → IsTree a part → part ≡ targets.Nothing → ⊥
-some_target a part h e = not_nothing a h.place h.tree (subst (λ t. Stands a t h.place h.tree) e h.stands)
+some_target a part h e = not_nothing a h.place h.tree (subst (λ t. Hangs a t h.place h.tree) e h.stands)

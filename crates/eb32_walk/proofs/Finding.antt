@@ -9,7 +9,7 @@ use Rattle.eb_arena.specs.declared.links.Target.{Target}
 use Rattle.eb_arena.specs.declared.links.Place.{Place}
 use Rattle.eb_arena.specs.Links.{index_of}
 use Rattle.eb_arena.specs.Parts.{Parts, up_of}
-use Rattle.eb_arena.specs.Shape.{Tree, tip, fork, items, Keys, Stands, list_of, list_below}
+use Rattle.eb_arena.specs.Shape.{Tree, tip, fork, items, Keys, Hangs, list_of, list_below}
 use Rattle.eb_arena.specs.Way.{before, after, Leads}
 use Rattle.eb_arena.proofs.Reading.{list_below_is}
 use Rattle.eb_arena.proofs.Ways.{part_split}
@@ -20,11 +20,11 @@ use Rattle.eb32_walk.proofs.Firsts.{first_of, last_of}
 use Rattle.eb_arena.proofs.Keyed.{all_items, all_map, filter_none, filter_all}
 use Rattle.eb32_walk.proofs.Up.{somewhere}
 
-pub up_of_is : (a : Parts) (target : Target) (place : Place) (t : Tree) → Stands a target place t → up_of a target ≡ place
+pub up_of_is : (a : Parts) (target : Target) (place : Place) (t : Tree) → Hangs a target place t → up_of a target ≡ place
 up_of_is a target place (tip e k) s = ap (up_of a) s.0 ∙ s.2
 up_of_is a target place (fork i b l r) s = ap (up_of a) s.0 ∙ s.2
 
-tree_fits_by : (a : Parts) (target : Target) (place : Place) (t : Tree) → Stands a target place t → index_of target < length a.elements
+tree_fits_by : (a : Parts) (target : Target) (place : Place) (t : Tree) → Hangs a target place t → index_of target < length a.elements
 tree_fits_by a target place (tip e k) s = subst (λ n. n < length a.elements) (sym (ap index_of s.0)) s.1
 tree_fits_by a target place (fork i b l r) s = subst (λ n. n < length a.elements) (sym (ap index_of s.0)) s.1
 

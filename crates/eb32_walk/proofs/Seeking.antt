@@ -14,7 +14,7 @@ use Rattle.eb_arena.specs.declared.links.Place.TheVariants as places
 use Rattle.eb_arena.specs.declared.element.Element.{Element}
 use Rattle.eb_arena.specs.Links.{index_of, side_number}
 use Rattle.eb_arena.specs.Parts.{Parts, element_at, link_at, child}
-use Rattle.eb_arena.specs.Shape.{Tree, tip, fork, items, items_of, Keys, IsBit, Stands, Split, DividesAt, Equals, IsRoot, root_place, HasShape, list_of, list_below}
+use Rattle.eb_arena.specs.Shape.{Tree, tip, fork, items, items_of, Keys, IsBit, Hangs, Split, DividesAt, Equals, IsRoot, root_place, HasShape, list_of, list_below}
 use Rattle.eb_arena.specs.Way.{Step, from_left, from_right, plug, before, after, Leads}
 use Rattle.eb_arena.proofs.Trees.{Has, keys_at, keys_map, bit_rank, tree_rank, falls_left, falls_right, lt_by_div, div_le_div}
 use Rattle.eb_arena.proofs.Reading.{list_of_is}
@@ -60,7 +60,7 @@ above_bit : (b : ℕ) (l r : Tree) (d : DividesAt b l r) → Keys (λ x. x / 2 ^
 above_bit b l r d =
     (keys_map (λ x. x / 2 ^ b ≡ 2 * d.q) (λ x. x / 2 ^ b / 2 ≡ d.q) l (λ x e. omega arith) d.left, keys_map (λ x. x / 2 ^ b ≡ 2 * d.q + 1) (λ x. x / 2 ^ b / 2 ≡ d.q) r (λ x e. omega arith) d.right)
 
-own_above : (a : Parts) (b i : ℕ) (l r : Tree) (target : Target) (place : Place) (d : DividesAt b l r) → Stands a target place (fork i (pos b) l r) → Split (fork i (pos b) l r) → (element_at a i).key / 2 ^ b / 2 ≡ d.q
+own_above : (a : Parts) (b i : ℕ) (l r : Tree) (target : Target) (place : Place) (d : DividesAt b l r) → Hangs a target place (fork i (pos b) l r) → Split (fork i (pos b) l r) → (element_at a i).key / 2 ^ b / 2 ≡ d.q
 own_above a b i l r target place d s p =
     let k : Has (element_at a i).key (fork i (pos b) l r) = leaf_key a (fork i (pos b) l r) target place i s p.0 in
     keys_at (λ x. x / 2 ^ b / 2 ≡ d.q) (fork i (pos b) l r) (element_at a i).key (above_bit b l r d) k
@@ -71,7 +71,7 @@ pub record Turned (a : Parts) (q key : ℕ) (part next : Target) (steps : ℕ) :
   pub longer : length narrow.way ≡ steps + 1
   pub falls : target_rank a next < target_rank a part
 
-turn_left : (a : Parts) (q key i b : ℕ) (l r : Tree) (place : Place) (w : List Step) → Stands a (targets.Node i) place (fork i (pos b) l r) → Leads a q place w → Split (plug w (fork i (pos b) l r)) → list_of a q ≡ before w ++ (items (fork i (pos b) l r) ++ after w) → AllKeys (λ x. x < key) (before w) → AllKeys (λ x. key < x) (after w) → Fits key w → IsRoot a q (Some (plug w (fork i (pos b) l r))) → TurnIs b (element_at a i).key key sides.Left → Turned a q key (targets.Node i) (element_at a i).left (length w)
+turn_left : (a : Parts) (q key i b : ℕ) (l r : Tree) (place : Place) (w : List Step) → Hangs a (targets.Node i) place (fork i (pos b) l r) → Leads a q place w → Split (plug w (fork i (pos b) l r)) → list_of a q ≡ before w ++ (items (fork i (pos b) l r) ++ after w) → AllKeys (λ x. x < key) (before w) → AllKeys (λ x. key < x) (after w) → Fits key w → IsRoot a q (Some (plug w (fork i (pos b) l r))) → TurnIs b (element_at a i).key key sides.Left → Turned a q key (targets.Node i) (element_at a i).left (length w)
 turn_left a q key i b l r place w s h p g low high ft wh t =
     let k : Split (fork i (pos b) l r) = part_split w (fork i (pos b) l r) p in
     let d : DividesAt b l r = k.2 in
@@ -96,7 +96,7 @@ turn_left a q key i b l r place w s h p g low high ft wh t =
       falls = let x : target_rank a (element_at a i).left ≡ tree_rank l = target_rank_is a _ _ l s.4 in let y : tree_rank l < bit_rank (pos b) = falls_left i (pos b) l r k in let z : bit_rank (element_at a i).bit ≡ bit_rank (pos b) = ap bit_rank s.3 in omega arith;
     }
 
-turn_right : (a : Parts) (q key i b : ℕ) (l r : Tree) (place : Place) (w : List Step) → Stands a (targets.Node i) place (fork i (pos b) l r) → Leads a q place w → Split (plug w (fork i (pos b) l r)) → list_of a q ≡ before w ++ (items (fork i (pos b) l r) ++ after w) → AllKeys (λ x. x < key) (before w) → AllKeys (λ x. key < x) (after w) → Fits key w → IsRoot a q (Some (plug w (fork i (pos b) l r))) → TurnIs b (element_at a i).key key sides.Right → Turned a q key (targets.Node i) (element_at a i).right (length w)
+turn_right : (a : Parts) (q key i b : ℕ) (l r : Tree) (place : Place) (w : List Step) → Hangs a (targets.Node i) place (fork i (pos b) l r) → Leads a q place w → Split (plug w (fork i (pos b) l r)) → list_of a q ≡ before w ++ (items (fork i (pos b) l r) ++ after w) → AllKeys (λ x. x < key) (before w) → AllKeys (λ x. key < x) (after w) → Fits key w → IsRoot a q (Some (plug w (fork i (pos b) l r))) → TurnIs b (element_at a i).key key sides.Right → Turned a q key (targets.Node i) (element_at a i).right (length w)
 turn_right a q key i b l r place w s h p g low high ft wh t =
     let k : Split (fork i (pos b) l r) = part_split w (fork i (pos b) l r) p in
     let d : DividesAt b l r = k.2 in
@@ -121,7 +121,7 @@ turn_right a q key i b l r place w s h p g low high ft wh t =
       falls = let x : target_rank a (element_at a i).right ≡ tree_rank r = target_rank_is a _ _ r s.5 in let y : tree_rank r < bit_rank (pos b) = falls_right i (pos b) l r k in let z : bit_rank (element_at a i).bit ≡ bit_rank (pos b) = ap bit_rank s.3 in omega arith;
     }
 
-turn_by : (a : Parts) (q key i : ℕ) (side : Side) (place : Place) (w : List Step) (t : Tree) → Stands a (targets.Node i) place t → Leads a q place w → Split (plug w t) → list_of a q ≡ before w ++ (items t ++ after w) → AllKeys (λ x. x < key) (before w) → AllKeys (λ x. key < x) (after w) → Fits key w → IsRoot a q (Some (plug w t)) → turn_of (element_at a i).key (element_at a i).bit key ≡ Some side → Turned a q key (targets.Node i) (child side (element_at a i)) (length w)
+turn_by : (a : Parts) (q key i : ℕ) (side : Side) (place : Place) (w : List Step) (t : Tree) → Hangs a (targets.Node i) place t → Leads a q place w → Split (plug w t) → list_of a q ≡ before w ++ (items t ++ after w) → AllKeys (λ x. x < key) (before w) → AllKeys (λ x. key < x) (after w) → Fits key w → IsRoot a q (Some (plug w t)) → turn_of (element_at a i).key (element_at a i).bit key ≡ Some side → Turned a q key (targets.Node i) (child side (element_at a i)) (length w)
 turn_by a q key i side place w (tip e k) s h p g low high ft wh t = let x : targets.Node i ≡ targets.Leaf e = s.0 in cc
 turn_by a q key i side place w (fork j (negsuc n) l r) s h p g low high ft wh t =
     let e : i ≡ j = ap index_of s.0 in
@@ -132,17 +132,17 @@ turn_by a q key i sides.Left place w (fork j (pos b) l r) s h p g low high ft wh
     let e : j ≡ i = sym (ap index_of s.0) in
     let bit : (element_at a i).bit ≡ pos b = ap (λ m. (element_at a m).bit) (sym e) ∙ s.3 in
     let is : TurnIs b (element_at a i).key key sides.Left = turn_is (element_at a i).key b key sides.Left (sym (ap (λ z. turn_of (element_at a i).key z key) bit) ∙ t) in
-    turn_left a q key i b l r place w (subst (λ m. Stands a (targets.Node i) place (fork m (pos b) l r)) e s) h (subst (λ m. Split (plug w (fork m (pos b) l r))) e p) g low high ft (subst (λ m. IsRoot a q (Some (plug w (fork m (pos b) l r)))) e wh) is
+    turn_left a q key i b l r place w (subst (λ m. Hangs a (targets.Node i) place (fork m (pos b) l r)) e s) h (subst (λ m. Split (plug w (fork m (pos b) l r))) e p) g low high ft (subst (λ m. IsRoot a q (Some (plug w (fork m (pos b) l r)))) e wh) is
 turn_by a q key i sides.Right place w (fork j (pos b) l r) s h p g low high ft wh t =
     let e : j ≡ i = sym (ap index_of s.0) in
     let bit : (element_at a i).bit ≡ pos b = ap (λ m. (element_at a m).bit) (sym e) ∙ s.3 in
     let is : TurnIs b (element_at a i).key key sides.Right = turn_is (element_at a i).key b key sides.Right (sym (ap (λ z. turn_of (element_at a i).key z key) bit) ∙ t) in
-    turn_right a q key i b l r place w (subst (λ m. Stands a (targets.Node i) place (fork m (pos b) l r)) e s) h (subst (λ m. Split (plug w (fork m (pos b) l r))) e p) g low high ft (subst (λ m. IsRoot a q (Some (plug w (fork m (pos b) l r)))) e wh) is
+    turn_right a q key i b l r place w (subst (λ m. Hangs a (targets.Node i) place (fork m (pos b) l r)) e s) h (subst (λ m. Split (plug w (fork m (pos b) l r))) e p) g low high ft (subst (λ m. IsRoot a q (Some (plug w (fork m (pos b) l r)))) e wh) is
 
 pub narrow_turn : (a : Parts) (q key i : ℕ) (part next : Target) (e : Element) (side : Side) (n : Narrow a q key part) → targets.Node i ≡ part → e ≡ element_at a i → Some side ≡ turn_of e.key e.bit key → next ≡ child side e → Turned a q key part next (length n.way)
 narrow_turn a q key i part next e side n is el t nx =
     let s : turn_of (element_at a i).key (element_at a i).bit key ≡ Some side = ap (λ z. turn_of z.key z.bit key) (sym el) ∙ sym t in
-    let u : Turned a q key (targets.Node i) (child side (element_at a i)) (length n.way) = turn_by a q key i side n.place n.way n.tree (subst (λ z. Stands a z n.place n.tree) (sym is) n.stands) n.leads n.split n.list_is n.low n.high n.fits n.whole s in
+    let u : Turned a q key (targets.Node i) (child side (element_at a i)) (length n.way) = turn_by a q key i side n.place n.way n.tree (subst (λ z. Hangs a z n.place n.tree) (sym is) n.stands) n.leads n.split n.list_is n.low n.high n.fits n.whole s in
     let v : Turned a q key part (child side (element_at a i)) (length n.way) = subst (λ z. Turned a q key z (child side (element_at a i)) (length n.way)) is u in
     subst (λ z. Turned a q key part z (length n.way)) (sym (nx ∙ ap (child side) el)) v
 
@@ -151,7 +151,7 @@ pub record NodeHas (a : Parts) (i : ℕ) : Type 0 where
   pub fits : i < length a.elements
   pub bit : IsBit (element_at a i).bit
 
-node_by : (a : Parts) (i : ℕ) (place : Place) (t : Tree) → Stands a (targets.Node i) place t → Split t → NodeHas a i
+node_by : (a : Parts) (i : ℕ) (place : Place) (t : Tree) → Hangs a (targets.Node i) place t → Split t → NodeHas a i
 node_by a i place (tip e k) s p = let x : targets.Node i ≡ targets.Leaf e = s.0 in cc
 node_by a i place (fork j b l r) s p =
     let e : j ≡ i = sym (ap index_of s.0) in
@@ -162,7 +162,7 @@ node_by a i place (fork j b l r) s p =
 
 pub node_has : (a : Parts) (q key i : ℕ) (part : Target) → Narrow a q key part → targets.Node i ≡ part → NodeHas a i
 node_has a q key i part n is =
-    node_by a i n.place n.tree (subst (λ z. Stands a z n.place n.tree) (sym is) n.stands) (part_split n.way n.tree n.split)
+    node_by a i n.place n.tree (subst (λ z. Hangs a z n.place n.tree) (sym is) n.stands) (part_split n.way n.tree n.split)
 
 -- how a part's keys lie where its own key does
 pub record Lies (own key : ℕ) (t : Tree) : Type 0 where
@@ -197,7 +197,7 @@ lies_apart b q own key t h o n =
       more = λ e. let s : key / 2 ^ b / 2 < own / 2 ^ b / 2 = apart_above b key own q n e in keys_map (λ x. x / 2 ^ b / 2 ≡ q) (λ x. key < x) t (λ x f. below_above b key x (omega arith)) h;
     }
 
-pub node_lies : (a : Parts) (key i : ℕ) (place : Place) (t : Tree) → Stands a (targets.Node i) place t → Split t → turn_of (element_at a i).key (element_at a i).bit key ≡ None → Lies (element_at a i).key key t
+pub node_lies : (a : Parts) (key i : ℕ) (place : Place) (t : Tree) → Hangs a (targets.Node i) place t → Split t → turn_of (element_at a i).key (element_at a i).bit key ≡ None → Lies (element_at a i).key key t
 node_lies a key i place (tip e k) s p t = let x : targets.Node i ≡ targets.Leaf e = s.0 in cc
 node_lies a key i place (fork j (negsuc n) l r) s p t =
     let e : j ≡ i = sym (ap index_of s.0) in
@@ -213,7 +213,7 @@ node_lies a key i place (fork j (pos b) l r) s p t =
     let o : (element_at a i).key / 2 ^ b / 2 ≡ d.q = ap (λ m. (element_at a m).key / 2 ^ b / 2) (sym e) ∙ own_above a b j l r _ place d s p in
     lies_apart b d.q (element_at a i).key key (fork j (pos b) l r) (above_bit b l r d) o (turn_none (element_at a i).key b key (sym (ap (λ z. turn_of (element_at a i).key z key) bit) ∙ t))
 
-pub leaf_lies : (a : Parts) (key i : ℕ) (place : Place) (t : Tree) → Stands a (targets.Leaf i) place t → Lies (element_at a i).key key t
+pub leaf_lies : (a : Parts) (key i : ℕ) (place : Place) (t : Tree) → Hangs a (targets.Leaf i) place t → Lies (element_at a i).key key t
 leaf_lies a key i place (tip e k) s = lies_equal (element_at a i).key key (tip e k) (sym s.3 ∙ ap (λ m. (element_at a m).key) (sym (ap index_of s.0)))
 leaf_lies a key i place (fork j b l r) s = let x : targets.Leaf i ≡ targets.Node j = s.0 in cc
 
@@ -272,4 +272,4 @@ reached_or_bare a q key old new z (Some part) h = (new, subst (λ m. Reaches a q
 
 -- a part that was come to is not nothing
 pub narrow_some : (a : Parts) (q key : ℕ) (part : Target) → Narrow a q key part → part ≡ targets.Nothing → ⊥
-narrow_some a q key part h e = not_nothing a h.place h.tree (subst (λ t. Stands a t h.place h.tree) e h.stands)
+narrow_some a q key part h e = not_nothing a h.place h.tree (subst (λ t. Hangs a t h.place h.tree) e h.stands)

@@ -9,7 +9,7 @@ use Rattle.eb_arena.specs.declared.links.Place.{Place}
 use Rattle.eb_arena.specs.declared.links.Place.TheVariants as places
 use Rattle.eb_arena.specs.Links.{place_index, place_side, opposite}
 use Rattle.eb_arena.specs.Parts.{Parts, element_at, child}
-use Rattle.eb_arena.specs.Shape.{Tree, fork, items, Stands, Split, list_below}
+use Rattle.eb_arena.specs.Shape.{Tree, fork, items, Hangs, Split, list_below}
 use Rattle.eb_arena.specs.Way.{Step, from_left, from_right, fill, plug, before, after, Leads}
 use Rattle.eb_arena.proofs.Trees.{bit_rank, tree_rank, falls_left, falls_right, rank_fits}
 use Rattle.eb_arena.proofs.Reading.{list_below_is}
@@ -117,7 +117,7 @@ other_by_way a q place xs (from_left i b r ∷ w) sides.Left t h p g f n = absur
 other_by_way a q place xs (from_left i b r ∷ w) sides.Right t h p g f n =
     let x : i ≡ place_index place = sym (ap place_index h.0) in
     let j : ℕ = place_index place in
-    let s : Stands a (element_at a j).right (places.Under j sides.Right) r = subst (λ n. Stands a (element_at a n).right (places.Under n sides.Right) r) x h.3 in
+    let s : Hangs a (element_at a j).right (places.Under j sides.Right) r = subst (λ n. Hangs a (element_at a n).right (places.Under n sides.Right) r) x h.3 in
     let k : Split r = (part_split w (fork i b t r) p).4 in
     let away : places.Under j sides.Right ≢ places.Nowhere = λ z. cc in
     record {
@@ -128,7 +128,7 @@ other_by_way a q place xs (from_right i b l ∷ w) sides.Right t h p g f n = abs
 other_by_way a q place xs (from_right i b l ∷ w) sides.Left t h p g f n =
     let x : i ≡ place_index place = sym (ap place_index h.0) in
     let j : ℕ = place_index place in
-    let s : Stands a (element_at a j).left (places.Under j sides.Left) l = subst (λ n. Stands a (element_at a n).left (places.Under n sides.Left) l) x h.3 in
+    let s : Hangs a (element_at a j).left (places.Under j sides.Left) l = subst (λ n. Hangs a (element_at a n).left (places.Under n sides.Left) l) x h.3 in
     let k : Split l = (part_split w (fork i b l t) p).3 in
     let away : places.Under j sides.Left ≢ places.Nowhere = λ z. cc in
     record {

@@ -4,11 +4,11 @@ use Rattle.std.specs.Prelude.{Some, None}
 use Rattle.eb_arena.specs.declared.links.Target.TheVariants as targets
 use Rattle.eb_arena.specs.declared.links.Place.TheVariants as places
 use Rattle.eb_arena.specs.Parts.{element_at}
-use Rattle.eb_arena.specs.Shape.{HasLeaf, HasNode, Stands, Split, HasShape, root_place, IsRoot}
+use Rattle.eb_arena.specs.Shape.{HasLeaf, HasNode, Hangs, Split, HasShape, root_place, IsRoot}
 use Rattle.eb32_walk.specs.Ends.{IsIn}
 use Rattle.eb32_walk.specs.Worked.{four_equal_keys, four_equal_tree, three_keys, three_keys_tree, two_twins, two_twins_tree, empty_root}
 
-four_stands : Stands four_equal_keys (targets.Node 2) (root_place four_equal_keys 0) four_equal_tree
+four_stands : Hangs four_equal_keys (targets.Node 2) (root_place four_equal_keys 0) four_equal_tree
 four_stands =
     (refl, lit< tt, refl, refl, (refl, lit< tt, refl, refl, (refl, lit< tt, refl, refl), (refl, lit< tt, refl, refl)), (refl, lit< tt, refl, refl, (refl, lit< tt, refl, refl), (refl, lit< tt, refl, refl)))
 

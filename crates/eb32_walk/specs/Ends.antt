@@ -7,7 +7,7 @@ use Rattle.eb_arena.specs.declared.links.Target.{Target}
 use Rattle.eb_arena.specs.declared.links.Place.{Place}
 use Rattle.eb_arena.specs.declared.links.Place.TheVariants as places
 use Rattle.eb_arena.specs.Parts.{Parts, element_at}
-use Rattle.eb_arena.specs.Shape.{Tree, Stands, Split, list_of}
+use Rattle.eb_arena.specs.Shape.{Tree, Hangs, Split, list_of}
 use Rattle.eb_arena.specs.Way.{Step, plug, before, after, Leads}
 
 -- the entry is in a tree
@@ -42,7 +42,7 @@ pub record IsTree (a : Parts) (target : Target) : Type 0 where
   pub place : Place
   pub tree : Tree
   pub hangs : place ≢ places.Nowhere
-  pub stands : Stands a target place tree
+  pub stands : Hangs a target place tree
   pub split : Split tree
 
 -- from the place a way leads up to a root

@@ -7,7 +7,7 @@ use Rattle.eb_arena.specs.declared.links.Target.TheVariants as targets
 use Rattle.eb_arena.specs.declared.links.Place.{Place}
 use Rattle.eb_arena.specs.Links.{index_of}
 use Rattle.eb_arena.specs.Parts.{Parts, element_at, link_at}
-use Rattle.eb_arena.specs.Shape.{Tree, items, Keys, AllKeys, Stands, Split, IsRoot, list_of}
+use Rattle.eb_arena.specs.Shape.{Tree, items, Keys, AllKeys, Hangs, Split, IsRoot, list_of}
 use Rattle.eb_arena.specs.Way.{Step, from_left, from_right, plug, before, after, Leads}
 
 -- the key of the entry whose leaf or node is the target
@@ -26,7 +26,7 @@ pub record IsFound (a : Parts) (root key : ℕ) (target : Target) : Type 0 where
   pub way : List Step
   pub tree : Tree
   pub leads : Leads a root place way
-  pub stands : Stands a target place tree
+  pub stands : Hangs a target place tree
   pub split : Split (plug way tree)
   pub list_is : list_of a root ≡ before way ++ (items tree ++ after way)
   pub low : AllKeys (λ x. x < key) (before way)
@@ -49,7 +49,7 @@ pub record Narrow (a : Parts) (root key : ℕ) (target : Target) : Type 0 where
   pub way : List Step
   pub tree : Tree
   pub leads : Leads a root place way
-  pub stands : Stands a target place tree
+  pub stands : Hangs a target place tree
   pub split : Split (plug way tree)
   pub list_is : list_of a root ≡ before way ++ (items tree ++ after way)
   pub low : AllKeys (λ x. x < key) (before way)

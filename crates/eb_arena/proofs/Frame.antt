@@ -10,17 +10,17 @@ use Rattle.eb_arena.specs.declared.links.Place.{Place}
 use Rattle.eb_arena.specs.declared.links.Place.TheVariants as places
 use Rattle.eb_arena.specs.declared.element.Element.{Element}
 use Rattle.eb_arena.specs.Parts.{Parts, element_at, with_element, unused, hung}
-use Rattle.eb_arena.specs.Shape.{Tree, tip, fork, Stands, HasNode}
+use Rattle.eb_arena.specs.Shape.{Tree, tip, fork, Hangs, HasNode}
 use Rattle.eb_arena.specs.Laws.{SameLeaf, SameOn}
 use Rattle.eb_arena.proofs.Reading.{same_tree}
 
-pub kept : (a z : Parts) (target : Target) (place : Place) (t : Tree) → length z.elements ≡ length a.elements → SameOn a z t → Stands a target place t → Stands z target place t
+pub kept : (a z : Parts) (target : Target) (place : Place) (t : Tree) → length z.elements ≡ length a.elements → SameOn a z t → Hangs a target place t → Hangs z target place t
 kept a z target place (tip e k) n h s =
     (s.0, subst (λ m. e < m) (sym n) s.1, h.leaf_p ∙ s.2, h.key ∙ s.3)
 kept a z target place (fork i b l r) n h s =
-    let x : Stands z (element_at a i).left (places.Under i sides.Left) l = kept a z _ _ l n h.1 s.4 in
-    let y : Stands z (element_at a i).right (places.Under i sides.Right) r = kept a z _ _ r n h.2 s.5 in
-    (s.0, subst (λ m. i < m) (sym n) s.1, h.0.node_p ∙ s.2, h.0.bit ∙ s.3, subst (λ m. Stands z m (places.Under i sides.Left) l) (sym h.0.left) x, subst (λ m. Stands z m (places.Under i sides.Right) r) (sym h.0.right) y)
+    let x : Hangs z (element_at a i).left (places.Under i sides.Left) l = kept a z _ _ l n h.1 s.4 in
+    let y : Hangs z (element_at a i).right (places.Under i sides.Right) r = kept a z _ _ r n h.2 s.5 in
+    (s.0, subst (λ m. i < m) (sym n) s.1, h.0.node_p ∙ s.2, h.0.bit ∙ s.3, subst (λ m. Hangs z m (places.Under i sides.Left) l) (sym h.0.left) x, subst (λ m. Hangs z m (places.Under i sides.Right) r) (sym h.0.right) y)
 
 -- how many parts a tree has
 abbrev pub size : Tree → ℕ
@@ -31,14 +31,14 @@ size (fork i b l r) = size l + size r + 1
 pub record Inner (a : Parts) (n : ℕ) (t : Tree) : Type 0 where
   pub place : Place
   pub tree : Tree
-  pub stands : Stands a (targets.Node n) place tree
+  pub stands : Hangs a (targets.Node n) place tree
   pub small : size tree ≤ size t
 
-pub inner : (a : Parts) (n : ℕ) (t : Tree) (target : Target) (place : Place) → Stands a target place t → HasNode n t → Inner a n t
+pub inner : (a : Parts) (n : ℕ) (t : Tree) (target : Target) (place : Place) → Hangs a target place t → HasNode n t → Inner a n t
 inner a n (tip e k) target place s h = absurd h
 inner a n (fork i b l r) target place s h =
     elim h [
-      | inl e ↦ record { place = place; tree = fork i b l r; stands = subst (λ m. Stands a m place (fork i b l r)) (s.0 ∙ ap (λ m. targets.Node m) (sym e)) s; small = omega arith }
+      | inl e ↦ record { place = place; tree = fork i b l r; stands = subst (λ m. Hangs a m place (fork i b l r)) (s.0 ∙ ap (λ m. targets.Node m) (sym e)) s; small = omega arith }
       | inr g ↦ elim g [
         | inl g ↦ let x : Inner a n l = inner a n l _ _ s.4 g in record { place = x.place; tree = x.tree; stands = x.stands; small = let y : size x.tree ≤ size l = x.small in omega arith }
         | inr g ↦ let x : Inner a n r = inner a n r _ _ s.5 g in record { place = x.place; tree = x.tree; stands = x.stands; small = let y : size x.tree ≤ size r = x.small in omega arith }
@@ -46,9 +46,9 @@ inner a n (fork i b l r) target place s h =
     ]
 
 -- a node is not below itself
-pub not_below : (a : Parts) (i : ℕ) (b : ℤ) (l r : Tree) (target : Target) (place : Place) → Stands a target place (fork i b l r) → HasNode i l ⊎ HasNode i r → ⊥
+pub not_below : (a : Parts) (i : ℕ) (b : ℤ) (l r : Tree) (target : Target) (place : Place) → Hangs a target place (fork i b l r) → HasNode i l ⊎ HasNode i r → ⊥
 not_below a i b l r target place s h =
-    let here : Stands a (targets.Node i) place (fork i b l r) = subst (λ m. Stands a m place (fork i b l r)) s.0 s in
+    let here : Hangs a (targets.Node i) place (fork i b l r) = subst (λ m. Hangs a m place (fork i b l r)) s.0 s in
     elim h [
       | inl g ↦ let x : Inner a i l = inner a i l _ _ s.4 g in let y : size x.tree ≡ size (fork i b l r) = ap size (same_tree a x.tree (fork i b l r) (targets.Node i) x.place place x.stands here) in let z : size x.tree ≤ size l = x.small in absurd (omega arith)
       | inr g ↦ let x : Inner a i r = inner a i r _ _ s.5 g in let y : size x.tree ≡ size (fork i b l r) = ap size (same_tree a x.tree (fork i b l r) (targets.Node i) x.place place x.stands here) in let z : size x.tree ≤ size r = x.small in absurd (omega arith)
@@ -78,22 +78,22 @@ node_hung_same a i p (fork j b l r) f n =
     let x : element_at (with_element a i (record (element_at a i) { node_p = p })) j ≡ element_at a j = at_other a i j (record (element_at a i) { node_p = p }) d in
     (record { node_p = ap (λ m. m.node_p) x; bit = ap (λ m. m.bit) x; left = ap (λ m. m.left) x; right = ap (λ m. m.right) x }, node_hung_same a i p l f (λ h. n (inr (inl h))), node_hung_same a i p r f (λ h. n (inr (inr h))))
 
-moved_leaf : (a : Parts) (e k : ℕ) (target : Target) (place next : Place) → Stands a target place (tip e k) → Stands (hung a (targets.Leaf e) next) target next (tip e k)
+moved_leaf : (a : Parts) (e k : ℕ) (target : Target) (place next : Place) → Hangs a target place (tip e k) → Hangs (hung a (targets.Leaf e) next) target next (tip e k)
 moved_leaf a e k target place next s =
     let el : Element = record (element_at a e) { leaf_p = next } in
     let x : element_at (with_element a e el) e ≡ el = at_set a e el s.1 in
     (s.0, subst (λ m. e < m) (sym (length-set a.elements e el)) s.1, ap (λ m. m.leaf_p) x, ap (λ m. m.key) x ∙ s.3)
 
-moved_node : (a : Parts) (i : ℕ) (b : ℤ) (l r : Tree) (target : Target) (place next : Place) → Stands a target place (fork i b l r) → Stands (hung a (targets.Node i) next) target next (fork i b l r)
+moved_node : (a : Parts) (i : ℕ) (b : ℤ) (l r : Tree) (target : Target) (place next : Place) → Hangs a target place (fork i b l r) → Hangs (hung a (targets.Node i) next) target next (fork i b l r)
 moved_node a i b l r target place next s =
     let el : Element = record (element_at a i) { node_p = next } in
     let z : Parts = with_element a i el in
     let n : length z.elements ≡ length a.elements = length-set a.elements i el in
     let x : element_at z i ≡ el = at_set a i el s.1 in
-    let ls : Stands z (element_at a i).left (places.Under i sides.Left) l = kept a z _ _ l n (node_hung_same a i next l s.1 (λ h. not_below a i b l r target place s (inl h))) s.4 in
-    let rs : Stands z (element_at a i).right (places.Under i sides.Right) r = kept a z _ _ r n (node_hung_same a i next r s.1 (λ h. not_below a i b l r target place s (inr h))) s.5 in
-    (s.0, subst (λ m. i < m) (sym n) s.1, ap (λ m. m.node_p) x, ap (λ m. m.bit) x ∙ s.3, subst (λ m. Stands z m (places.Under i sides.Left) l) (sym (ap (λ m. m.left) x)) ls, subst (λ m. Stands z m (places.Under i sides.Right) r) (sym (ap (λ m. m.right) x)) rs)
+    let ls : Hangs z (element_at a i).left (places.Under i sides.Left) l = kept a z _ _ l n (node_hung_same a i next l s.1 (λ h. not_below a i b l r target place s (inl h))) s.4 in
+    let rs : Hangs z (element_at a i).right (places.Under i sides.Right) r = kept a z _ _ r n (node_hung_same a i next r s.1 (λ h. not_below a i b l r target place s (inr h))) s.5 in
+    (s.0, subst (λ m. i < m) (sym n) s.1, ap (λ m. m.node_p) x, ap (λ m. m.bit) x ∙ s.3, subst (λ m. Hangs z m (places.Under i sides.Left) l) (sym (ap (λ m. m.left) x)) ls, subst (λ m. Hangs z m (places.Under i sides.Right) r) (sym (ap (λ m. m.right) x)) rs)
 
-pub moved : (a : Parts) (target : Target) (place next : Place) (t : Tree) → Stands a target place t → Stands (hung a target next) target next t
-moved a target place next (tip e k) s = subst (λ m. Stands (hung a m next) target next (tip e k)) (sym s.0) (moved_leaf a e k target place next s)
-moved a target place next (fork i b l r) s = subst (λ m. Stands (hung a m next) target next (fork i b l r)) (sym s.0) (moved_node a i b l r target place next s)
+pub moved : (a : Parts) (target : Target) (place next : Place) (t : Tree) → Hangs a target place t → Hangs (hung a target next) target next t
+moved a target place next (tip e k) s = subst (λ m. Hangs (hung a m next) target next (tip e k)) (sym s.0) (moved_leaf a e k target place next s)
+moved a target place next (fork i b l r) s = subst (λ m. Hangs (hung a m next) target next (fork i b l r)) (sym s.0) (moved_node a i b l r target place next s)

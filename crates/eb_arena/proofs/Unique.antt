@@ -11,7 +11,7 @@ use Rattle.eb_arena.specs.declared.links.Place.{Place}
 use Rattle.eb_arena.specs.declared.links.Place.TheVariants as places
 use Rattle.eb_arena.specs.Links.{index_of, place_index, place_side}
 use Rattle.eb_arena.specs.Parts.{Parts, element_at, link_at}
-use Rattle.eb_arena.specs.Shape.{Tree, tip, fork, items_of, Stands, HasLeaf, HasNode, IsRoot, root_place, Shape, HasShape, InSome, list_of}
+use Rattle.eb_arena.specs.Shape.{Tree, tip, fork, items_of, Hangs, HasLeaf, HasNode, IsRoot, root_place, Shape, HasShape, InSome, list_of}
 use Rattle.eb_arena.specs.Way.{Step, from_left, from_right, plug, before, after, Leads}
 use Rattle.eb_arena.specs.Laws.{LeafTells, NodeTells, OnePosition}
 use Rattle.eb_arena.proofs.Reading.{same_tree, list_of_is}
@@ -33,13 +33,13 @@ one_way a q r place (from_right i b t ∷ w) (from_left j c u ∷ v) h g = let x
 one_way a q r place (from_left i b t ∷ w) (from_left j c u ∷ v) h g =
     let e : j ≡ i = sym (ap place_index g.0) ∙ ap place_index h.0 in
     let bits : b ≡ c = sym h.2 ∙ (ap (λ m. (element_at a m).bit) (sym e) ∙ g.2) in
-    let trees : t ≡ u = same_tree a t u _ _ _ h.3 (subst (λ m. Stands a (element_at a m).right (places.Under m sides.Right) u) e g.3) in
+    let trees : t ≡ u = same_tree a t u _ _ _ h.3 (subst (λ m. Hangs a (element_at a m).right (places.Under m sides.Right) u) e g.3) in
     let up : (q ≡ r) × (w ≡ v) = one_way a q r (element_at a i).node_p w v h.4 (subst (λ m. Leads a r (element_at a m).node_p v) e g.4) in
     (up.0, ap (λ m. from_left m b t ∷ w) (sym e) ∙ (ap (λ m. from_left j m t ∷ w) bits ∙ (ap (λ m. from_left j c m ∷ w) trees ∙ ap (λ m. from_left j c u ∷ m) up.1)))
 one_way a q r place (from_right i b t ∷ w) (from_right j c u ∷ v) h g =
     let e : j ≡ i = sym (ap place_index g.0) ∙ ap place_index h.0 in
     let bits : b ≡ c = sym h.2 ∙ (ap (λ m. (element_at a m).bit) (sym e) ∙ g.2) in
-    let trees : t ≡ u = same_tree a t u _ _ _ h.3 (subst (λ m. Stands a (element_at a m).left (places.Under m sides.Left) u) e g.3) in
+    let trees : t ≡ u = same_tree a t u _ _ _ h.3 (subst (λ m. Hangs a (element_at a m).left (places.Under m sides.Left) u) e g.3) in
     let up : (q ≡ r) × (w ≡ v) = one_way a q r (element_at a i).node_p w v h.4 (subst (λ m. Leads a r (element_at a m).node_p v) e g.4) in
     (up.0, ap (λ m. from_right m b t ∷ w) (sym e) ∙ (ap (λ m. from_right j m t ∷ w) bits ∙ (ap (λ m. from_right j c m ∷ w) trees ∙ ap (λ m. from_right j c u ∷ m) up.1)))
 
@@ -53,7 +53,7 @@ pub record NodeWay (a : Parts) (q : ℕ) (whole : Tree) (n : ℕ) : Type 0 where
   pub whole_is : plug way (fork n bit left right) ≡ whole
   pub fits : n < length a.elements
 
-pub node_way : (a : Parts) (q : ℕ) (t : Tree) (c : List Step) (target : Target) (place : Place) (n : ℕ) → Stands a target place t → Leads a q place c → HasNode n t → NodeWay a q (plug c t) n
+pub node_way : (a : Parts) (q : ℕ) (t : Tree) (c : List Step) (target : Target) (place : Place) (n : ℕ) → Hangs a target place t → Leads a q place c → HasNode n t → NodeWay a q (plug c t) n
 node_way a q (tip f m) c target place n s w h = absurd h
 node_way a q (fork i b l r) c target place n s w h =
     let up : Leads a q (element_at a i).node_p c = subst (λ p. Leads a q p c) (sym s.2) w in
@@ -115,20 +115,20 @@ stand_once a q r e k m xs ys us vs h f g x y =
       back = sym w.after_is ∙ (ap after u.1 ∙ v.after_is);
     }
 
-pub nothing_stands : (a : Parts) (place : Place) (t : Tree) → Stands a targets.Nothing place t → ⊥
+pub nothing_stands : (a : Parts) (place : Place) (t : Tree) → Hangs a targets.Nothing place t → ⊥
 nothing_stands a place (tip e k) s = let x : targets.Nothing ≡ targets.Leaf e = s.0 in cc
 nothing_stands a place (fork j b l r) s = let x : targets.Nothing ≡ targets.Node j = s.0 in cc
 
 pub same_option : (a : Parts) (q : ℕ) (o p : Option Tree) → IsRoot a q o → IsRoot a q p → o ≡ p
 same_option a q None None h g = refl
-same_option a q None (Some u) h g = absurd (nothing_stands a (root_place a q) u (subst (λ x. Stands a x (root_place a q) u) h g.0))
-same_option a q (Some t) None h g = absurd (nothing_stands a (root_place a q) t (subst (λ x. Stands a x (root_place a q) t) g h.0))
+same_option a q None (Some u) h g = absurd (nothing_stands a (root_place a q) u (subst (λ x. Hangs a x (root_place a q) u) h g.0))
+same_option a q (Some t) None h g = absurd (nothing_stands a (root_place a q) t (subst (λ x. Hangs a x (root_place a q) t) g h.0))
 same_option a q (Some t) (Some u) h g = ap (λ x. Some x) (same_tree a t u _ _ _ h.0 g.0)
 
 pub determined : (a : Parts) (ts us : ℕ → Option Tree) → Shape a ts → Shape a us → (q : ℕ) → q < length a.links → (ts q ≡ us q) × (list_of a q ≡ items_of (ts q))
 determined a ts us h g q f = (same_option a q (ts q) (us q) (h.roots q f) (g.roots q f), list_of_is a q (ts q) (h.roots q f))
 
-leaf_tells : (a : Parts) (place : Place) (i : ℕ) (t : Tree) → Stands a (targets.Leaf i) place t → LeafTells a place i t
+leaf_tells : (a : Parts) (place : Place) (i : ℕ) (t : Tree) → Hangs a (targets.Leaf i) place t → LeafTells a place i t
 leaf_tells a place i (tip e k) s =
     let x : e ≡ i = sym (ap index_of s.0) in
     record {
@@ -138,7 +138,7 @@ leaf_tells a place i (tip e k) s =
     }
 leaf_tells a place i (fork j b l r) s = let x : targets.Leaf i ≡ targets.Node j = s.0 in cc
 
-pub node_tells : (a : Parts) (place : Place) (i : ℕ) (t : Tree) → Stands a (targets.Node i) place t → NodeTells a place i t
+pub node_tells : (a : Parts) (place : Place) (i : ℕ) (t : Tree) → Hangs a (targets.Node i) place t → NodeTells a place i t
 node_tells a place i (tip e k) s = let x : targets.Node i ≡ targets.Leaf e = s.0 in cc
 node_tells a place i (fork j b l r) s =
     let x : j ≡ i = sym (ap index_of s.0) in
@@ -148,29 +148,29 @@ node_tells a place i (fork j b l r) s =
       right = r;
       tree_is = ap (λ m. fork m b l r) x ∙ ap (λ m. fork i m l r) (sym s.3 ∙ ap (λ m. (element_at a m).bit) x);
       hangs = ap (λ m. (element_at a m).node_p) (sym x) ∙ s.2;
-      left_stands = subst (λ m. Stands a (element_at a m).left (places.Under m sides.Left) l) x s.4;
-      right_stands = subst (λ m. Stands a (element_at a m).right (places.Under m sides.Right) r) x s.5;
+      left_stands = subst (λ m. Hangs a (element_at a m).left (places.Under m sides.Left) l) x s.4;
+      right_stands = subst (λ m. Hangs a (element_at a m).right (places.Under m sides.Right) r) x s.5;
     }
 
-pub tells : (a : Parts) (place : Place) (i : ℕ) (t : Tree) → (Stands a (targets.Leaf i) place t → LeafTells a place i t) × (Stands a (targets.Node i) place t → NodeTells a place i t)
+pub tells : (a : Parts) (place : Place) (i : ℕ) (t : Tree) → (Hangs a (targets.Leaf i) place t → LeafTells a place i t) × (Hangs a (targets.Node i) place t → NodeTells a place i t)
 tells a place i t = (leaf_tells a place i t, node_tells a place i t)
 
 -- a part of a root's tree, and the way up from it
 pub record PartAt (a : Parts) (q : ℕ) (w : List Step) (t : Tree) : Type 0 where
   pub target : Target
   pub place : Place
-  pub stands : Stands a target place t
+  pub stands : Hangs a target place t
   pub leads : Leads a q place w
 
-pub part_at : (a : Parts) (q : ℕ) (w : List Step) (t : Tree) → Stands a (link_at a q) (root_place a q) (plug w t) → PartAt a q w t
+pub part_at : (a : Parts) (q : ℕ) (w : List Step) (t : Tree) → Hangs a (link_at a q) (root_place a q) (plug w t) → PartAt a q w t
 part_at a q [] t s = record { target = link_at a q; place = root_place a q; stands = s; leads = refl }
 part_at a q (from_left i b r ∷ w) t s =
     let p : PartAt a q w (fork i b t r) = part_at a q w (fork i b t r) s in
-    let h : Stands a p.target p.place (fork i b t r) = p.stands in
+    let h : Hangs a p.target p.place (fork i b t r) = p.stands in
     record { target = (element_at a i).left; place = places.Under i sides.Left; stands = h.4; leads = (refl, h.1, h.3, h.5, subst (λ o. Leads a q o w) (sym h.2) p.leads) }
 part_at a q (from_right i b l ∷ w) t s =
     let p : PartAt a q w (fork i b l t) = part_at a q w (fork i b l t) s in
-    let h : Stands a p.target p.place (fork i b l t) = p.stands in
+    let h : Hangs a p.target p.place (fork i b l t) = p.stands in
     record { target = (element_at a i).right; place = places.Under i sides.Right; stands = h.5; leads = (refl, h.1, h.3, h.4, subst (λ o. Leads a q o w) (sym h.2) p.leads) }
 
 -- the way up from a node
@@ -178,7 +178,7 @@ node_leads : (a : Parts) (ts : ℕ → Option Tree) (q i : ℕ) (b : ℤ) (w : L
 node_leads a ts q i b w l r h f e =
     let root : IsRoot a q (Some (plug w (fork i b l r))) = subst (IsRoot a q) e (h.roots q f) in
     let p : PartAt a q w (fork i b l r) = part_at a q w (fork i b l r) root.0 in
-    let s : Stands a p.target p.place (fork i b l r) = p.stands in
+    let s : Hangs a p.target p.place (fork i b l r) = p.stands in
     subst (λ o. Leads a q o w) (sym s.2) p.leads
 
 pub nodes_once : (a : Parts) (ts : ℕ → Option Tree) (q r i : ℕ) (b c : ℤ) (w v : List Step) (left right low high : Tree) → Shape a ts → q < length a.links → r < length a.links → ts q ≡ Some (plug w (fork i b left right)) → ts r ≡ Some (plug v (fork i c low high)) → (q ≡ r) × (w ≡ v)

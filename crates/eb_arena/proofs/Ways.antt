@@ -5,7 +5,7 @@ use Rattle.sched_base.specs.KeyedList.{KeyedItem}
 use Rattle.eb_arena.specs.declared.links.Target.{Target}
 use Rattle.eb_arena.specs.declared.links.Place.{Place}
 use Rattle.eb_arena.specs.Parts.{Parts, element_at}
-use Rattle.eb_arena.specs.Shape.{Tree, tip, fork, items, Stands, Split, HasLeaf}
+use Rattle.eb_arena.specs.Shape.{Tree, tip, fork, items, Hangs, Split, HasLeaf}
 use Rattle.eb_arena.specs.Way.{Step, from_left, from_right, plug, before, after, Leads}
 use Rattle.eb_arena.proofs.Trees.{Has}
 
@@ -60,7 +60,7 @@ tip_item x y [] ys h = (ap (λ zs. get_or zs 0 y) h, refl, sym (ap (drop 1) h))
 tip_item x y (z ∷ []) ys h = let e : [] ≡ y ∷ ys = ap (drop 1) h in cc
 tip_item x y (z ∷ w ∷ xs) ys h = let e : [] ≡ w ∷ (xs ++ y ∷ ys) = ap (drop 1) h in cc
 
-pub item_way : (a : Parts) (q : ℕ) (t : Tree) (c : List Step) (target : Target) (place : Place) (e k : ℕ) (xs ys us vs : List KeyedItem) → Stands a target place t → Leads a q place c → items t ≡ xs ++ record { key = k; entry = e } ∷ ys → before c ++ xs ≡ us → ys ++ after c ≡ vs → ItemWay a q (plug c t) e k us vs
+pub item_way : (a : Parts) (q : ℕ) (t : Tree) (c : List Step) (target : Target) (place : Place) (e k : ℕ) (xs ys us vs : List KeyedItem) → Hangs a target place t → Leads a q place c → items t ≡ xs ++ record { key = k; entry = e } ∷ ys → before c ++ xs ≡ us → ys ++ after c ≡ vs → ItemWay a q (plug c t) e k us vs
 item_way a q (tip f m) c target place e k xs ys us vs s w h u v =
     let y : KeyedItem = record { key = k; entry = e } in
     let g : (record { key = m; entry = f } ≡ y) × (xs ≡ []) × (ys ≡ []) = tip_item (record { key = m; entry = f }) y xs ys h in
@@ -89,7 +89,7 @@ pub record LeafWay (a : Parts) (q : ℕ) (whole : Tree) (e : ℕ) : Type 0 where
   pub whole_is : plug way (tip e (element_at a e).key) ≡ whole
   pub fits : e < length a.elements
 
-pub leaf_way : (a : Parts) (q : ℕ) (t : Tree) (c : List Step) (target : Target) (place : Place) (e : ℕ) → Stands a target place t → Leads a q place c → HasLeaf e t → LeafWay a q (plug c t) e
+pub leaf_way : (a : Parts) (q : ℕ) (t : Tree) (c : List Step) (target : Target) (place : Place) (e : ℕ) → Hangs a target place t → Leads a q place c → HasLeaf e t → LeafWay a q (plug c t) e
 leaf_way a q (tip f m) c target place e s w h =
     record {
       way = c;
@@ -105,7 +105,7 @@ leaf_way a q (fork i b l r) c target place e s w h =
     ]
 
 -- the key of an entry that a tree has stands in it
-pub leaf_key : (a : Parts) (t : Tree) (target : Target) (place : Place) (e : ℕ) → Stands a target place t → HasLeaf e t → Has (element_at a e).key t
+pub leaf_key : (a : Parts) (t : Tree) (target : Target) (place : Place) (e : ℕ) → Hangs a target place t → HasLeaf e t → Has (element_at a e).key t
 leaf_key a (tip f m) target place e s h = sym s.3 ∙ ap (λ n. (element_at a n).key) (sym h)
 leaf_key a (fork i b l r) target place e s h =
     elim h [ inl g ↦ inl (leaf_key a l _ _ e s.4 g) | inr g ↦ inr (leaf_key a r _ _ e s.5 g) ]

@@ -7,7 +7,7 @@ use Rattle.eb_arena.specs.declared.links.Target.TheVariants as targets
 use Rattle.eb_arena.specs.declared.links.Place.{Place}
 use Rattle.eb_arena.specs.declared.links.Place.TheVariants as places
 use Rattle.eb_arena.specs.Parts.{Parts, element_at, hung}
-use Rattle.eb_arena.specs.Shape.{Tree, tip, fork, items_of, Stands, Shape, HasShape, InSome, HasLeaf, HasNode, list_of}
+use Rattle.eb_arena.specs.Shape.{Tree, tip, fork, items_of, Hangs, Shape, HasShape, InSome, HasLeaf, HasNode, list_of}
 use Rattle.eb_arena.specs.Way.{Step, plug, Leads}
 
 -- what the element of a leaf tells of the tree
@@ -23,13 +23,13 @@ pub record NodeTells (a : Parts) (place : Place) (i : ℕ) (t : Tree) : Type 0 w
   pub right : Tree
   pub tree_is : t ≡ fork i (element_at a i).bit left right
   pub hangs : (element_at a i).node_p ≡ place
-  pub left_stands : Stands a (element_at a i).left (places.Under i sides.Left) left
-  pub right_stands : Stands a (element_at a i).right (places.Under i sides.Right) right
+  pub left_stands : Hangs a (element_at a i).left (places.Under i sides.Left) left
+  pub right_stands : Hangs a (element_at a i).right (places.Under i sides.Right) right
 
 -- reading one element tells the upper part of the tree that it is
 abbrev pub ElementsTell : Type 0
 ElementsTell =
-    (a : Parts) (place : Place) (i : ℕ) (t : Tree) → (Stands a (targets.Leaf i) place t → LeafTells a place i t) × (Stands a (targets.Node i) place t → NodeTells a place i t)
+    (a : Parts) (place : Place) (i : ℕ) (t : Tree) → (Hangs a (targets.Leaf i) place t → LeafTells a place i t) × (Hangs a (targets.Node i) place t → NodeTells a place i t)
 
 -- the arena determines its trees, and a root's list is that of its tree
 abbrev pub ListsAreDetermined : Type 0
@@ -56,12 +56,12 @@ SameOn a z (fork i b l r) = SameNode a z i × SameOn a z l × SameOn a z r
 -- a change of what is not in a tree leaves the tree as it was
 abbrev pub ChangesElsewhereKeep : Type 0
 ChangesElsewhereKeep =
-    (a z : Parts) (target : Target) (place : Place) (t : Tree) → length z.elements ≡ length a.elements → SameOn a z t → Stands a target place t → Stands z target place t
+    (a z : Parts) (target : Target) (place : Place) (t : Tree) → length z.elements ≡ length a.elements → SameOn a z t → Hangs a target place t → Hangs z target place t
 
 -- a part whose link up is rewritten moves whole
 abbrev pub PartsMoveWhole : Type 0
 PartsMoveWhole =
-    (a : Parts) (target : Target) (place next : Place) (t : Tree) → Stands a target place t → Stands (hung a target next) target next t
+    (a : Parts) (target : Target) (place next : Place) (t : Tree) → Hangs a target place t → Hangs (hung a target next) target next t
 
 -- from one place one way leads up, to one root
 abbrev pub PlacesHaveOneWay : Type 0

@@ -75,12 +75,12 @@ Split (tip entry key) = Unit {0}
 Split (fork i b l r) = (HasLeaf i l ⊎ HasLeaf i r) × IsBit b × Divides b l r × Split l × Split r
 
 -- the target is the tree: its elements say the same, and the part on top hangs at the place
-abbrev pub Stands : Parts → Target → Place → Tree → Type 0
-Stands a target place (tip entry key) =
+abbrev pub Hangs : Parts → Target → Place → Tree → Type 0
+Hangs a target place (tip entry key) =
     (target ≡ targets.Leaf entry) × (entry < length a.elements) × ((element_at a entry).leaf_p ≡ place) × ((element_at a entry).key ≡ key)
-Stands a target place (fork i b l r) =
+Hangs a target place (fork i b l r) =
     (target ≡ targets.Node i) × (i < length a.elements) × ((element_at a i).node_p ≡ place) × ((element_at a i).bit ≡ b)
-    × Stands a (element_at a i).left (places.Under i sides.Left) l × Stands a (element_at a i).right (places.Under i sides.Right) r
+    × Hangs a (element_at a i).left (places.Under i sides.Left) l × Hangs a (element_at a i).right (places.Under i sides.Right) r
 
 -- what hangs on a root has this place
 abbrev pub root_place : Parts → ℕ → Place
@@ -89,7 +89,7 @@ root_place a q = places.Under (length a.elements + q) sides.Left
 -- what hangs on the root: no tree, or this one
 abbrev pub IsRoot : Parts → ℕ → Option Tree → Type 0
 IsRoot a q None = link_at a q ≡ targets.Nothing
-IsRoot a q (Some t) = Stands a (link_at a q) (root_place a q) t × Split t
+IsRoot a q (Some t) = Hangs a (link_at a q) (root_place a q) t × Split t
 
 -- some root's tree has what P says
 abbrev pub InSome : Parts → (ℕ → Option Tree) → (Tree → Type 0) → Type 0

@@ -5,7 +5,7 @@ use Rattle.eb_arena.specs.declared.links.Side.TheVariants as sides
 use Rattle.eb_arena.specs.declared.links.Place.{Place}
 use Rattle.eb_arena.specs.declared.links.Place.TheVariants as places
 use Rattle.eb_arena.specs.Parts.{Parts, element_at}
-use Rattle.eb_arena.specs.Shape.{Tree, fork, items, Stands, root_place}
+use Rattle.eb_arena.specs.Shape.{Tree, fork, items, Hangs, root_place}
 
 -- one step up: a node's index and bit, and the tree on its other side
 pub data Step : Type 0 where
@@ -39,7 +39,7 @@ abbrev pub Leads : Parts → ℕ → Place → List Step → Type 0
 Leads a q place [] = place ≡ root_place a q
 Leads a q place (from_left i b r ∷ w) =
     (place ≡ places.Under i sides.Left) × (i < length a.elements) × ((element_at a i).bit ≡ b)
-    × Stands a (element_at a i).right (places.Under i sides.Right) r × Leads a q (element_at a i).node_p w
+    × Hangs a (element_at a i).right (places.Under i sides.Right) r × Leads a q (element_at a i).node_p w
 Leads a q place (from_right i b l ∷ w) =
     (place ≡ places.Under i sides.Right) × (i < length a.elements) × ((element_at a i).bit ≡ b)
-    × Stands a (element_at a i).left (places.Under i sides.Left) l × Leads a q (element_at a i).node_p w
+    × Hangs a (element_at a i).left (places.Under i sides.Left) l × Leads a q (element_at a i).node_p w

@@ -12,13 +12,13 @@ use Rattle.eb_arena.specs.declared.links.Place.{Place}
 use Rattle.eb_arena.specs.declared.links.Place.TheVariants as places
 use Rattle.eb_arena.specs.Links.{index_of}
 use Rattle.eb_arena.specs.Parts.{Parts, element_at}
-use Rattle.eb_arena.specs.Shape.{Tree, tip, fork, Stands, Split, IsBelow, Equals}
+use Rattle.eb_arena.specs.Shape.{Tree, tip, fork, Hangs, Split, IsBelow, Equals}
 use Rattle.eb_arena.proofs.Unique.{nothing_stands}
 use Rattle.eb_arena.specs.Way.{Step, from_right, plug, Leads}
 use Rattle.eb_dups.specs.Spine.{IsTwins, spine_value, spine_length, depth, depth_of, IsSpine, HasGap, IsTwinTree, IsSlot}
 use Rattle.eb_dups.specs.Added.{VisitsSpine}
 
-pub depth_of_is : (a : Parts) (target : Target) (place : Place) (t : Tree) → Stands a target place t → depth_of a target ≡ depth t
+pub depth_of_is : (a : Parts) (target : Target) (place : Place) (t : Tree) → Hangs a target place t → depth_of a target ≡ depth t
 depth_of_is a target place (tip e k) s = ap (depth_of a) s.0
 depth_of_is a target place (fork i b l r) s = ap (depth_of a) s.0 ∙ ap unsigned_abs s.3
 
@@ -26,12 +26,12 @@ depth_of_is a target place (fork i b l r) s = ap (depth_of a) s.0 ∙ ap unsigne
 pub record Walk (a : Parts) (head slot here : Target) : Type 0 where
   pub place : Place
   pub tree : Tree
-  pub stands : Stands a head place tree
+  pub stands : Hangs a head place tree
   pub split : Split tree
   pub at_steps : List Step
   pub at : Tree
   pub at_place : Place
-  pub at_stands : Stands a here at_place at
+  pub at_stands : Hangs a here at_place at
   pub at_split : Split at
   pub at_is : tree ≡ plug at_steps at
   pub at_spine : IsSpine at_steps
@@ -40,7 +40,7 @@ pub record Walk (a : Parts) (head slot here : Target) : Type 0 where
   pub steps : List Step
   pub part : Tree
   pub part_place : Place
-  pub part_stands : Stands a slot part_place part
+  pub part_stands : Hangs a slot part_place part
   pub part_is : tree ≡ plug steps part
   pub spine : IsSpine steps
   pub leads : (q : ℕ) (w : List Step) → Leads a q place w → Leads a q part_place (steps ++ w)
@@ -97,13 +97,13 @@ pub record Spot (a : Parts) (head slot : Target) (i : ℕ) : Type 0 where
   pub slot_down : depth_of a (element_at a i).right < n → Walk a head (element_at a i).right (element_at a i).right
   pub slot_stays : (depth_of a (element_at a i).right < n → ⊥) → Walk a head slot (element_at a i).right
 
-pub index_fits : (a : Parts) (target : Target) (place : Place) (t : Tree) → Stands a target place t → index_of target < length a.elements
+pub index_fits : (a : Parts) (target : Target) (place : Place) (t : Tree) → Hangs a target place t → index_of target < length a.elements
 index_fits a target place (tip e k) s = subst (λ n. n < length a.elements) (sym (ap index_of s.0)) s.1
 index_fits a target place (fork i b l r) s = subst (λ n. n < length a.elements) (sym (ap index_of s.0)) s.1
 
 spot_at : (a : Parts) (head slot : Target) (i n : ℕ) (l r : Tree) (w : Walk a head slot (targets.Node i)) → w.at ≡ fork i (negsuc n) l r → Spot a head slot i
 spot_at a head slot i n l r w e =
-    let h : Stands a (targets.Node i) w.at_place (fork i (negsuc n) l r) = subst (Stands a (targets.Node i) w.at_place) e w.at_stands in
+    let h : Hangs a (targets.Node i) w.at_place (fork i (negsuc n) l r) = subst (Hangs a (targets.Node i) w.at_place) e w.at_stands in
     let p : Split (fork i (negsuc n) l r) = subst Split e w.at_split in
     let v : Equals n l r = p.2 in
     let down : Target = (element_at a i).right in
@@ -178,12 +178,12 @@ spot_at a head slot i n l r w e =
 
 spot_by : (a : Parts) (head slot : Target) (i : ℕ) (w : Walk a head slot (targets.Node i)) (t : Tree) → w.at ≡ t → Spot a head slot i
 spot_by a head slot i w (tip e k) h =
-    let s : Stands a (targets.Node i) w.at_place (tip e k) = subst (Stands a (targets.Node i) w.at_place) h w.at_stands in
+    let s : Hangs a (targets.Node i) w.at_place (tip e k) = subst (Hangs a (targets.Node i) w.at_place) h w.at_stands in
     let x : targets.Node i ≡ targets.Leaf e = s.0 in
     cc
 spot_by a head slot i w (fork j (pos b) l r) h = absurd (subst IsTwins h w.at_twins)
 spot_by a head slot i w (fork j (negsuc n) l r) h =
-    let s : Stands a (targets.Node i) w.at_place (fork j (negsuc n) l r) = subst (Stands a (targets.Node i) w.at_place) h w.at_stands in
+    let s : Hangs a (targets.Node i) w.at_place (fork j (negsuc n) l r) = subst (Hangs a (targets.Node i) w.at_place) h w.at_stands in
     spot_at a head slot i n l r w (h ∙ ap (λ m. fork m (negsuc n) l r) (sym (ap index_of s.0)))
 
 pub spot : (a : Parts) (head slot here : Target) (i : ℕ) → Walk a head slot here → targets.Node i ≡ here → Spot a head slot i
@@ -193,7 +193,7 @@ spot a head slot here i w e =
 
 end_by : (a : Parts) (head slot here : Target) (w : Walk a head slot here) (t : Tree) → w.at ≡ t → ((i : ℕ) → here ≡ targets.Node i → ⊥) → IsSlot a head slot
 end_by a head slot here w (fork j b l r) h n =
-    let s : Stands a here w.at_place (fork j b l r) = subst (Stands a here w.at_place) h w.at_stands in
+    let s : Hangs a here w.at_place (fork j b l r) = subst (Hangs a here w.at_place) h w.at_stands in
     absurd (n j s.0)
 end_by a head slot here w (tip e k) h n =
     record {
@@ -221,7 +221,7 @@ here_fits a head slot here w = index_fits a here w.at_place w.at w.at_stands
 
 -- where the walk is, there is a part
 pub here_some : (a : Parts) (head slot here : Target) → Walk a head slot here → here ≡ targets.Nothing → ⊥
-here_some a head slot here w e = nothing_stands a w.at_place w.at (subst (λ t. Stands a t w.at_place w.at) e w.at_stands)
+here_some a head slot here w e = nothing_stands a w.at_place w.at (subst (λ t. Hangs a t w.at_place w.at) e w.at_stands)
 
 -- a step down the spine from a node, of the depths that were read
 pub record SpineStep (a : Parts) (head slot next : Target) (deep low : ℕ) : Type 0 where
@@ -256,17 +256,17 @@ next_twins a head slot here next i w n e =
 pub record Counted (a : Parts) (head here : Target) (old now : ℕ) : Type 0 where
   pub place : Place
   pub tree : Tree
-  pub stands : Stands a head place tree
+  pub stands : Hangs a head place tree
   pub at : Tree
   pub at_place : Place
-  pub at_stands : Stands a here at_place at
+  pub at_stands : Hangs a here at_place at
   pub taken : now + spine_length at ≡ old + (spine_length tree + 1)
 
 pub count_start : (a : Parts) (head : Target) (old now : ℕ) → IsTwinTree a head → now ≡ old + 1 → Counted a head head old now
 count_start a head old now h e =
     record { place = h.place; tree = h.tree; stands = h.stands; at = h.tree; at_place = h.place; at_stands = h.stands; taken = omega (arith, e) }
 
-count_at : (a : Parts) (head here : Target) (i old now : ℕ) (c : Counted a head here old now) (t : Tree) → Stands a here c.at_place t → IsTwins t → c.at ≡ t → here ≡ targets.Node i → Counted a head (element_at a i).right old (now + 1)
+count_at : (a : Parts) (head here : Target) (i old now : ℕ) (c : Counted a head here old now) (t : Tree) → Hangs a here c.at_place t → IsTwins t → c.at ≡ t → here ≡ targets.Node i → Counted a head (element_at a i).right old (now + 1)
 count_at a head here i old now c (tip e k) s w h n = let x : targets.Leaf e ≡ targets.Node i = sym s.0 ∙ n in cc
 count_at a head here i old now c (fork j (pos b) l r) s w h n = absurd w
 count_at a head here i old now c (fork j (negsuc m) l r) s w h n =
@@ -279,17 +279,17 @@ count_at a head here i old now c (fork j (negsuc m) l r) s w h n =
       stands = c.stands;
       at = r;
       at_place = places.Under i sides.Right;
-      at_stands = subst (λ x. Stands a (element_at a x).right (places.Under x sides.Right) r) e s.5;
+      at_stands = subst (λ x. Hangs a (element_at a x).right (places.Under x sides.Right) r) e s.5;
       taken = omega (arith, k, t);
     }
 
 pub count_down : (a : Parts) (head here next : Target) (i old now new : ℕ) → Counted a head here old now → IsTwinTree a here → targets.Node i ≡ here → next ≡ (element_at a i).right → new ≡ now + 1 → Counted a head next old new
 count_down a head here next i old now new c w n e k =
     let same : c.at ≡ w.tree = same_tree a c.at w.tree here c.at_place w.place c.at_stands w.stands in
-    let x : Counted a head (element_at a i).right old (now + 1) = count_at a head here i old now c w.tree (subst (Stands a here c.at_place) same c.at_stands) w.twins same (sym n) in
+    let x : Counted a head (element_at a i).right old (now + 1) = count_at a head here i old now c w.tree (subst (Hangs a here c.at_place) same c.at_stands) w.twins same (sym n) in
     subst (λ m. Counted a head next old m) (sym k) (subst (λ t. Counted a head t old (now + 1)) (sym e) x)
 
-count_last : (a : Parts) (head here : Target) (old now : ℕ) (c : Counted a head here old now) (t : Tree) → Stands a here c.at_place t → c.at ≡ t → ((i : ℕ) → here ≡ targets.Node i → ⊥) → now ≡ old + (spine_length c.tree + 1)
+count_last : (a : Parts) (head here : Target) (old now : ℕ) (c : Counted a head here old now) (t : Tree) → Hangs a here c.at_place t → c.at ≡ t → ((i : ℕ) → here ≡ targets.Node i → ⊥) → now ≡ old + (spine_length c.tree + 1)
 count_last a head here old now c (tip e k) s h n =
     let x : spine_length c.at ≡ 0 = ap spine_length h in
     let t : now + spine_length c.at ≡ old + (spine_length c.tree + 1) = c.taken in

@@ -6,7 +6,7 @@ use Rattle.eb_arena.specs.declared.links.Target.{Target}
 use Rattle.eb_arena.specs.declared.links.Place.{Place}
 use Rattle.eb_arena.specs.declared.links.Place.TheVariants as places
 use Rattle.eb_arena.specs.Parts.{Parts, element_at}
-use Rattle.eb_arena.specs.Shape.{Tree, tip, fork, Stands, Split, HasLeaf, HasNode, root_place}
+use Rattle.eb_arena.specs.Shape.{Tree, tip, fork, Hangs, Split, HasLeaf, HasNode, root_place}
 use Rattle.eb_arena.specs.Way.{Step, from_left, from_right, plug, Leads}
 use Rattle.eb_arena.proofs.Unique.{one_way, leads_somewhere}
 use Rattle.eb_arena.proofs.Frame.{not_below}
@@ -25,7 +25,7 @@ pub record LeafFoot (a : Parts) (q : ℕ) (c : List Step) (e : ℕ) : Type 0 whe
   pub foot : List Step
   pub leads : Leads a q (element_at a e).leaf_p (foot ++ c)
 
-pub leaf_foot : (a : Parts) (q : ℕ) (t : Tree) (c : List Step) (target : Target) (place : Place) (e : ℕ) → Stands a target place t → Leads a q place c → HasLeaf e t → LeafFoot a q c e
+pub leaf_foot : (a : Parts) (q : ℕ) (t : Tree) (c : List Step) (target : Target) (place : Place) (e : ℕ) → Hangs a target place t → Leads a q place c → HasLeaf e t → LeafFoot a q c e
 leaf_foot a q (tip f m) c target place e s w h =
     record { foot = []; leads = subst (λ p. Leads a q p c) (sym s.2 ∙ ap (λ n. (element_at a n).leaf_p) (sym h)) w }
 leaf_foot a q (fork i b l r) c target place e s w h =
@@ -54,7 +54,7 @@ abbrev pub Distinct : Tree → Type 0
 Distinct (tip e k) = Unit {0}
 Distinct (fork i b l r) = NoShare l r × (HasNode i l → ⊥) × (HasNode i r → ⊥) × Distinct l × Distinct r
 
-sides_leaf : (a : Parts) (q i x : ℕ) (b : ℤ) (l r : Tree) (c : List Step) (target : Target) (place : Place) → Stands a target place (fork i b l r) → Leads a q place c → HasLeaf x l → HasLeaf x r → ⊥
+sides_leaf : (a : Parts) (q i x : ℕ) (b : ℤ) (l r : Tree) (c : List Step) (target : Target) (place : Place) → Hangs a target place (fork i b l r) → Leads a q place c → HasLeaf x l → HasLeaf x r → ⊥
 sides_leaf a q i x b l r c target place s w h g =
     let up : Leads a q (element_at a i).node_p c = subst (λ p. Leads a q p c) (sym s.2) w in
     let f : LeafFoot a q (from_left i b r ∷ c) x = leaf_foot a q l (from_left i b r ∷ c) _ _ x s.4 (refl, s.1, s.3, s.5, up) h in
@@ -63,7 +63,7 @@ sides_leaf a q i x b l r c target place s w h g =
     let z : from_left i b r ≡ from_right i b l = last_same f.foot d.foot c (from_left i b r) (from_right i b l) e in
     cc
 
-pub distinct : (a : Parts) (q : ℕ) (t : Tree) (c : List Step) (target : Target) (place : Place) → Stands a target place t → Leads a q place c → Split t → Distinct t
+pub distinct : (a : Parts) (q : ℕ) (t : Tree) (c : List Step) (target : Target) (place : Place) → Hangs a target place t → Leads a q place c → Split t → Distinct t
 distinct a q (tip e k) c target place s w p = tt
 distinct a q (fork i b l r) c target place s w p =
     let up : Leads a q (element_at a i).node_p c = subst (λ p. Leads a q p c) (sym s.2) w in (
@@ -109,7 +109,7 @@ away (from_right i b l ∷ w) t d =
     (p.2, swap_share l t p.0, away_sub w (fork i b l t) t (λ x h. inr h) (λ x h. inr (inr h)) (away w (fork i b l t) d))
 
 -- trees of different roots share nothing
-pub roots_apart : (a : Parts) (q r : ℕ) (s z : Target) (t u : Tree) → Stands a s (root_place a q) t → Stands a z (root_place a r) u → Split t → Split u → (q ≡ r → ⊥) → NoShare t u
+pub roots_apart : (a : Parts) (q r : ℕ) (s z : Target) (t u : Tree) → Hangs a s (root_place a q) t → Hangs a z (root_place a r) u → Split t → Split u → (q ≡ r → ⊥) → NoShare t u
 roots_apart a q r s z t u h g p o n =
     let no : (x : ℕ) → HasLeaf x t → HasLeaf x u → ⊥ = λ x f d.
     let v : LeafFoot a q [] x = leaf_foot a q t [] _ _ x h refl f in
@@ -122,7 +122,7 @@ pub record Fresh (e : ℕ) (t : Tree) : Type 0 where
   pub leaf : HasLeaf e t → ⊥
   pub node : HasNode e t → ⊥
 
-pub fresh : (a : Parts) (q e : ℕ) (t : Tree) (target : Target) (place : Place) (c : List Step) → Stands a target place t → Leads a q place c → Split t → (element_at a e).leaf_p ≡ places.Nowhere → Fresh e t
+pub fresh : (a : Parts) (q e : ℕ) (t : Tree) (target : Target) (place : Place) (c : List Step) → Hangs a target place t → Leads a q place c → Split t → (element_at a e).leaf_p ≡ places.Nowhere → Fresh e t
 fresh a q e t target place c s w p n =
     let no : HasLeaf e t → ⊥ = λ h. let f : LeafFoot a q c e = leaf_foot a q t c target place e s w h in leads_somewhere a q (element_at a e).leaf_p (f.foot ++ c) f.leads n in
     record { leaf = no; node = λ h. no (node_leaf t e p h) }

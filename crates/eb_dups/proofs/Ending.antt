@@ -8,7 +8,7 @@ use Rattle.eb_arena.specs.declared.links.Place.{Place}
 use Rattle.eb_arena.specs.declared.links.Place.TheVariants as places
 use Rattle.eb_arena.specs.Links.{place_index, place_side}
 use Rattle.eb_arena.specs.Parts.{Parts, element_at, link_at, up_of}
-use Rattle.eb_arena.specs.Shape.{Tree, tip, fork, Keys, Stands, Split, IsRoot, Shape, root_place}
+use Rattle.eb_arena.specs.Shape.{Tree, tip, fork, Keys, Hangs, Split, IsRoot, Shape, root_place}
 use Rattle.eb_arena.specs.Way.{Step, from_left, from_right, plug, Leads}
 use Rattle.eb_arena.proofs.Trees.{Has, keys_at, some_key}
 use Rattle.eb_arena.proofs.Reading.{same_tree}
@@ -22,7 +22,7 @@ use Rattle.eb_dups.proofs.Regrown.{Growth, Outcome, outcome, grown_shape, tree_a
 use Rattle.eb_dups.proofs.Descent.{depth_of_is, below_depth}
 use Rattle.eb_dups.proofs.Added.{plug-append, HasRoom, regrow_split, spine_up, items_up, keys_up, keys_part, twins_up, spine_le, below_self, pow_small, pow_le}
 
-pub up_of_is : (a : Parts) (target : Target) (place : Place) (t : Tree) → Stands a target place t → up_of a target ≡ place
+pub up_of_is : (a : Parts) (target : Target) (place : Place) (t : Tree) → Hangs a target place t → up_of a target ≡ place
 up_of_is a target place (tip e k) s = ap (up_of a) s.0 ∙ s.2
 up_of_is a target place (fork i b l r) s = ap (up_of a) s.0 ∙ s.2
 
@@ -107,14 +107,14 @@ gap_not_full d i n l s h p lt full =
     not_full d (fork i (negsuc n) l s) h p x
 
 -- what is on top of a tree stays there where the tree changes below it
-top_same : (x : Step) (d : List Step) (a z : Parts) (s g : Tree) (t u : Target) (p o : Place) → Stands a t p (plug (x ∷ d) s) → Stands z u o (plug (x ∷ d) g) → t ≡ u
+top_same : (x : Step) (d : List Step) (a z : Parts) (s g : Tree) (t u : Target) (p o : Place) → Hangs a t p (plug (x ∷ d) s) → Hangs z u o (plug (x ∷ d) g) → t ≡ u
 top_same (from_left i b r) [] a z s g t u p o h k = h.0 ∙ sym k.0
 top_same (from_right i b l) [] a z s g t u p o h k = h.0 ∙ sym k.0
 top_same (from_left i b r) (y ∷ d) a z s g t u p o h k = top_same y d a z (fork i b s r) (fork i b g r) t u p o h k
 top_same (from_right i b l) (y ∷ d) a z s g t u p o h k = top_same y d a z (fork i b l s) (fork i b l g) t u p o h k
 
 -- which target is on top of the key's tree once the entry's node went in below these steps
-head_is : (d : List Step) (a z : Parts) (head t : Target) (p o : Place) (s : Tree) (e k : ℕ) → IsSpine d → HasGap d s → Split (plug d s) → spine_value s + 1 ≡ 2 ^ depth s → Stands a head p (plug d s) → Stands z t o (plug d (fork e (negsuc (depth s)) s (tip e k))) → t ≡ head_after head (plug d s) e
+head_is : (d : List Step) (a z : Parts) (head t : Target) (p o : Place) (s : Tree) (e k : ℕ) → IsSpine d → HasGap d s → Split (plug d s) → spine_value s + 1 ≡ 2 ^ depth s → Hangs a head p (plug d s) → Hangs z t o (plug d (fork e (negsuc (depth s)) s (tip e k))) → t ≡ head_after head (plug d s) e
 head_is [] a z head t p o s e k h gap sp full x y = y.0 ∙ sym (rw (eq-eqb (spine_value s + 1) (2 ^ depth s) full) refl)
 head_is (from_left i b r ∷ d) a z head t p o s e k h gap sp full x y = absurd h
 head_is (from_right i (pos b) l ∷ d) a z head t p o s e k h gap sp full x y = absurd h
@@ -124,7 +124,7 @@ head_is (from_right i (negsuc n) l ∷ d) a z head t p o s e k h gap sp full x y
     let no : eqb (spine_value v + 1) (2 ^ depth v) ≡ false = ne_eqb (spine_value v + 1) (2 ^ depth v) (λ q. omega (arith, lt, q)) in
     sym (top_same (from_right i (negsuc n) l) d a z s (fork e (negsuc (depth s)) s (tip e k)) head t p o x y) ∙ sym (rw no refl)
 
-added_at : (a : Parts) (head slot : Target) (e : ℕ) (trees : ℕ → Option Tree) (root : ℕ) (way d : List Step) (part_place : Place) (part : Tree) (place : Place) → Growth a trees root (d ++ way) slot part_place part e → Stands a head place (plug d part) → Split (plug (d ++ way) part) → IsSpine d → HasGap d part → IsWhole way → IsTwins part → Keys (λ x. x ≡ (element_at a e).key) (plug d part) → spine_value part + 1 ≡ 2 ^ depth part → depth part < 63 → TwinAdded a (attached a slot part_place e sides.Right (negsuc (depth part))) trees root way head (plug d part) (element_at a e).key e
+added_at : (a : Parts) (head slot : Target) (e : ℕ) (trees : ℕ → Option Tree) (root : ℕ) (way d : List Step) (part_place : Place) (part : Tree) (place : Place) → Growth a trees root (d ++ way) slot part_place part e → Hangs a head place (plug d part) → Split (plug (d ++ way) part) → IsSpine d → HasGap d part → IsWhole way → IsTwins part → Keys (λ x. x ≡ (element_at a e).key) (plug d part) → spine_value part + 1 ≡ 2 ^ depth part → depth part < 63 → TwinAdded a (attached a slot part_place e sides.Right (negsuc (depth part))) trees root way head (plug d part) (element_at a e).key e
 added_at a head slot e trees root way d part_place part place g hd sp sn gap wh tw ks full small =
     let key : ℕ = (element_at a e).key in
     let new : Tree = fork e (negsuc (depth part)) part (tip e key) in
@@ -138,7 +138,7 @@ added_at a head slot e trees root way d part_place part place g hd sp sn gap wh 
     let shape : Shape (attached a slot part_place e sides.Right (negsuc (depth part))) (with_tree trees root (Some (plug (d ++ way) new))) = grown_shape a trees root (d ++ way) slot part_place part e sides.Right (negsuc (depth part)) g whole in
     let z : Parts = attached a slot part_place e sides.Right (negsuc (depth part)) in
     let out : Outcome a z root (d ++ way) slot part_place part e sides.Right (negsuc (depth part)) = outcome a trees root (d ++ way) slot part_place part e sides.Right (negsuc (depth part)) g in
-    let at : PartAt z root way (plug d new) = part_at z root way (plug d new) (subst (λ t. Stands z (link_at z root) (root_place z root) t) (plug-append d way new) out.stands) in
+    let at : PartAt z root way (plug d new) = part_at z root way (plug d new) (subst (λ t. Hangs z (link_at z root) (root_place z root) t) (plug-append d way new) out.stands) in
     let own_split : Split (plug d part) = part_split way (plug d part) (subst Split (plug-append d way part) sp) in
     let top : at.target ≡ head_after head (plug d part) e = head_is d a z head at.target place at.place part e key sn gap own_split full hd at.stands in
     record {
@@ -146,7 +146,7 @@ added_at a head slot e trees root way d part_place part place g hd sp sn gap wh 
       grows = record { way = d; part = part; side = sides.Right; bit = negsuc (depth part); was = refl; is = refl };
       place = at.place;
       leads = at.leads;
-      stands = subst (λ t. Stands z t at.place (plug d new)) top at.stands;
+      stands = subst (λ t. Hangs z t at.place (plug d new)) top at.stands;
       elements = out.grew.count;
       roots = out.grew.roots;
       shape = subst (λ t. Shape z (with_tree trees root (Some t))) (plug-append d way new) shape;
@@ -156,7 +156,7 @@ added_at a head slot e trees root way d part_place part place g hd sp sn gap wh 
       keys = keys_up d part new (λ x. x ≡ key) (has (λ x. x ≡ key)) ks;
     }
 
-pub twin_added : (a : Parts) (head slot : Target) (e : ℕ) → KeyHead a head (element_at a e).key → MayRise a head → IsSlot a head slot → e < length a.elements → (element_at a e).leaf_p ≡ places.Nowhere → (trees : ℕ → Option Tree) (root : ℕ) (way : List Step) (place : Place) (tree : Tree) → Shape a trees → root < length a.links → trees root ≡ Some (plug way tree) → Leads a root place way → Stands a head place tree → TwinAdded a (attached a slot (up_of a slot) e sides.Right (negsuc (depth_of a slot))) trees root way head tree (element_at a e).key e
+pub twin_added : (a : Parts) (head slot : Target) (e : ℕ) → KeyHead a head (element_at a e).key → MayRise a head → IsSlot a head slot → e < length a.elements → (element_at a e).leaf_p ≡ places.Nowhere → (trees : ℕ → Option Tree) (root : ℕ) (way : List Step) (place : Place) (tree : Tree) → Shape a trees → root < length a.links → trees root ≡ Some (plug way tree) → Leads a root place way → Hangs a head place tree → TwinAdded a (attached a slot (up_of a slot) e sides.Right (negsuc (depth_of a slot))) trees root way head tree (element_at a e).key e
 twin_added a head slot e h room s f n trees root way place tree sh fr is ld st =
     let key : ℕ = (element_at a e).key in
     let ht : h.tree ≡ tree = same_tree a h.tree tree head h.place place h.stands st in
@@ -180,7 +180,7 @@ twin_added a head slot e h room s f n trees root way place tree sh fr is ld st =
     let ks : Keys (λ x. x ≡ key) (plug s.steps s.part) = subst (Keys (λ x. x ≡ key)) (ht ∙ tp) h.keys in
     let d : depth_of a slot ≡ depth s.part = depth_of_is a slot s.part_place s.part s.part_stands in
     let small : depth s.part < 63 = subst (λ m. m < 63) d (slot_depth a head slot room s) in
-    let r : TwinAdded a (attached a slot s.part_place e sides.Right (negsuc (depth s.part))) trees root way head (plug s.steps s.part) key e = added_at a head slot e trees root way s.steps s.part_place s.part place g (subst (Stands a head place) tp st) split s.spine s.gap (subst IsWhole hw.1 h.whole) s.twins ks s.full small in
+    let r : TwinAdded a (attached a slot s.part_place e sides.Right (negsuc (depth s.part))) trees root way head (plug s.steps s.part) key e = added_at a head slot e trees root way s.steps s.part_place s.part place g (subst (Hangs a head place) tp st) split s.spine s.gap (subst IsWhole hw.1 h.whole) s.twins ks s.full small in
     let u : up_of a slot ≡ s.part_place = up_of_is a slot s.part_place s.part s.part_stands in
     subst (λ m. TwinAdded a (attached a slot (up_of a slot) e sides.Right (negsuc m)) trees root way head tree key e) (sym d) (subst (λ o. TwinAdded a (attached a slot o e sides.Right (negsuc (depth s.part))) trees root way head tree key e) (sym u) (subst (λ m. TwinAdded a (attached a slot s.part_place e sides.Right (negsuc (depth s.part))) trees root way head m key e) (sym tp) r))
 
@@ -199,7 +199,7 @@ head_after_is a z head e h f place tree st =
       exists = subst (λ n. h.root < n) (sym r.roots) h.exists;
       tree_is = tree_at h.trees h.root (Some (plug h.way r.after));
       leads = r.leads;
-      stands = subst (λ t. Stands z (head_after head t e) r.place r.after) same r.stands;
+      stands = subst (λ t. Hangs z (head_after head t e) r.place r.after) same r.stands;
       whole = h.whole;
       twins = r.twins;
       keys = r.keys;

@@ -11,7 +11,7 @@ use Rattle.eb_arena.specs.declared.links.Place.{Place}
 use Rattle.eb_arena.specs.declared.links.Place.TheVariants as places
 use Rattle.eb_arena.specs.Links.{index_of, place_index, opposite}
 use Rattle.eb_arena.specs.Parts.{Parts, element_at, link_at}
-use Rattle.eb_arena.specs.Shape.{Tree, tip, fork, Stands, Split, HasLeaf, HasNode, IsRoot, root_place, Shape, InSome}
+use Rattle.eb_arena.specs.Shape.{Tree, tip, fork, Hangs, Split, HasLeaf, HasNode, IsRoot, root_place, Shape, InSome}
 use Rattle.eb_arena.specs.Way.{Step, from_left, from_right, plug, Leads}
 use Rattle.eb_arena.specs.Laws.{SameLeaf, SameNode, SameOn}
 use Rattle.eb_arena.proofs.Frame.{kept}
@@ -20,11 +20,11 @@ use Rattle.eb_dups.proofs.Distinct.{NoShare, Distinct, Away, Fresh, FreshWay, di
 use Rattle.eb_dups.proofs.Growing.{Grew, GrewAt, GrewRoot, grew_at, grew_root}
 
 -- the part on top of a tree is in it
-pub top_leaf : (a : Parts) (part : Target) (place : Place) (s : Tree) (x : ℕ) → Stands a part place s → part ≡ targets.Leaf x → HasLeaf x s
+pub top_leaf : (a : Parts) (part : Target) (place : Place) (s : Tree) (x : ℕ) → Hangs a part place s → part ≡ targets.Leaf x → HasLeaf x s
 top_leaf a part place (tip e k) x s h = ap index_of (sym h ∙ s.0)
 top_leaf a part place (fork i b l r) x s h = let z : targets.Leaf x ≡ targets.Node i = sym h ∙ s.0 in cc
 
-pub top_node : (a : Parts) (part : Target) (place : Place) (s : Tree) (x : ℕ) → Stands a part place s → part ≡ targets.Node x → HasNode x s
+pub top_node : (a : Parts) (part : Target) (place : Place) (s : Tree) (x : ℕ) → Hangs a part place s → part ≡ targets.Node x → HasNode x s
 top_node a part place (tip e k) x s h = let z : targets.Node x ≡ targets.Leaf e = sym h ∙ s.0 in cc
 top_node a part place (fork i b l r) x s h = inl (ap index_of (sym h ∙ s.0))
 
@@ -38,7 +38,7 @@ same_on a z part place e side bit (fork i b l r) g f p q n = (
 )
 
 -- the part itself stands below the new node
-moved_part : (a z : Parts) (part : Target) (place : Place) (e : ℕ) (side : Side) (bit : ℤ) (s : Tree) → Grew a z part place e side bit → Stands a part place s → Distinct s → Fresh e s → (HasNode (place_index place) s → ⊥) → Stands z part (places.Under e (opposite side)) s
+moved_part : (a z : Parts) (part : Target) (place : Place) (e : ℕ) (side : Side) (bit : ℤ) (s : Tree) → Grew a z part place e side bit → Hangs a part place s → Distinct s → Fresh e s → (HasNode (place_index place) s → ⊥) → Hangs z part (places.Under e (opposite side)) s
 moved_part a z part place e side bit (tip x k) g s d f n =
     let u : ((element_at z x).leaf_p ≡ places.Under e (opposite side)) × ((element_at z x).key ≡ (element_at a x).key) = g.leaf_up x s.0 in
     (s.0, subst (λ m. x < m) (sym g.count) s.1, u.0, u.1 ∙ s.3)
@@ -52,18 +52,18 @@ moved_part a z part place e side bit (fork i b l r) g s d f n =
       subst (λ m. i < m) (sym g.count) s.1,
       u.0,
       u.1 ∙ s.3,
-      subst (λ m. Stands z m (places.Under i sides.Left) l) (sym u.2) (kept a z _ _ l g.count ls s.4),
-      subst (λ m. Stands z m (places.Under i sides.Right) r) (sym u.3) (kept a z _ _ r g.count rs s.5),
+      subst (λ m. Hangs z m (places.Under i sides.Left) l) (sym u.2) (kept a z _ _ l g.count ls s.4),
+      subst (λ m. Hangs z m (places.Under i sides.Right) r) (sym u.3) (kept a z _ _ r g.count rs s.5),
     )
 
 -- the new node stands where the part hung
-new_stands : (a z : Parts) (part : Target) (place : Place) (e : ℕ) (side : Side) (bit : ℤ) (s : Tree) → Grew a z part place e side bit → e < length a.elements → Stands z part (places.Under e (opposite side)) s → Stands z (targets.Node e) place (grown side e bit (element_at a e).key s)
+new_stands : (a z : Parts) (part : Target) (place : Place) (e : ℕ) (side : Side) (bit : ℤ) (s : Tree) → Grew a z part place e side bit → e < length a.elements → Hangs z part (places.Under e (opposite side)) s → Hangs z (targets.Node e) place (grown side e bit (element_at a e).key s)
 new_stands a z part place e sides.Left bit s g f h =
     let n : e < length z.elements = subst (λ m. e < m) (sym g.count) f in
-    (refl, n, ap (λ m. m.node_p) g.own, ap (λ m. m.bit) g.own, (ap (λ m. m.left) g.own, n, ap (λ m. m.leaf_p) g.own, ap (λ m. m.key) g.own), subst (λ m. Stands z m (places.Under e sides.Right) s) (sym (ap (λ m. m.right) g.own)) h)
+    (refl, n, ap (λ m. m.node_p) g.own, ap (λ m. m.bit) g.own, (ap (λ m. m.left) g.own, n, ap (λ m. m.leaf_p) g.own, ap (λ m. m.key) g.own), subst (λ m. Hangs z m (places.Under e sides.Right) s) (sym (ap (λ m. m.right) g.own)) h)
 new_stands a z part place e sides.Right bit s g f h =
     let n : e < length z.elements = subst (λ m. e < m) (sym g.count) f in
-    (refl, n, ap (λ m. m.node_p) g.own, ap (λ m. m.bit) g.own, subst (λ m. Stands z m (places.Under e sides.Left) s) (sym (ap (λ m. m.left) g.own)) h, (ap (λ m. m.right) g.own, n, ap (λ m. m.leaf_p) g.own, ap (λ m. m.key) g.own))
+    (refl, n, ap (λ m. m.node_p) g.own, ap (λ m. m.bit) g.own, subst (λ m. Hangs z m (places.Under e sides.Left) s) (sym (ap (λ m. m.left) g.own)) h, (ap (λ m. m.right) g.own, n, ap (λ m. m.leaf_p) g.own, ap (λ m. m.key) g.own))
 
 -- the nodes of a way and the trees beside it are the same
 abbrev pub SameWay : Parts → Parts → List Step → Type 0
@@ -72,7 +72,7 @@ SameWay a z (from_left i b r ∷ w) = SameNode a z i × SameOn a z r × SameWay 
 SameWay a z (from_right i b l ∷ w) = SameNode a z i × SameOn a z l × SameWay a z w
 
 -- a change at the foot of such a way goes up
-pub lift : (a z : Parts) (w : List Step) (s g : Tree) → length z.elements ≡ length a.elements → SameWay a z w → ((t : Target) (p : Place) → Stands a t p s → Stands z t p g) → (t : Target) (p : Place) → Stands a t p (plug w s) → Stands z t p (plug w g)
+pub lift : (a z : Parts) (w : List Step) (s g : Tree) → length z.elements ≡ length a.elements → SameWay a z w → ((t : Target) (p : Place) → Hangs a t p s → Hangs z t p g) → (t : Target) (p : Place) → Hangs a t p (plug w s) → Hangs z t p (plug w g)
 lift a z [] s g n m f = f
 lift a z (from_left i b r ∷ w) s g n m f =
     lift a z w (fork i b s r) (fork i b g r) n m.2 (λ t p h. (
@@ -80,8 +80,8 @@ lift a z (from_left i b r ∷ w) s g n m f =
       subst (λ x. i < x) (sym n) h.1,
       m.0.node_p ∙ h.2,
       m.0.bit ∙ h.3,
-      subst (λ x. Stands z x (places.Under i sides.Left) g) (sym m.0.left) (f _ _ h.4),
-      subst (λ x. Stands z x (places.Under i sides.Right) r) (sym m.0.right) (kept a z _ _ r n m.1 h.5),
+      subst (λ x. Hangs z x (places.Under i sides.Left) g) (sym m.0.left) (f _ _ h.4),
+      subst (λ x. Hangs z x (places.Under i sides.Right) r) (sym m.0.right) (kept a z _ _ r n m.1 h.5),
     ))
 lift a z (from_right i b l ∷ w) s g n m f =
     lift a z w (fork i b l s) (fork i b l g) n m.2 (λ t p h. (
@@ -89,8 +89,8 @@ lift a z (from_right i b l ∷ w) s g n m f =
       subst (λ x. i < x) (sym n) h.1,
       m.0.node_p ∙ h.2,
       m.0.bit ∙ h.3,
-      subst (λ x. Stands z x (places.Under i sides.Left) l) (sym m.0.left) (kept a z _ _ l n m.1 h.4),
-      subst (λ x. Stands z x (places.Under i sides.Right) g) (sym m.0.right) (f _ _ h.5),
+      subst (λ x. Hangs z x (places.Under i sides.Left) l) (sym m.0.left) (kept a z _ _ l n m.1 h.4),
+      subst (λ x. Hangs z x (places.Under i sides.Right) g) (sym m.0.right) (f _ _ h.5),
     ))
 
 -- what is away from a tree with the part and the node above it is the same
@@ -113,19 +113,19 @@ pub record Growth (a : Parts) (ts : ℕ → Option Tree) (q : ℕ) (w : List Ste
   pub root : q < length a.links
   pub tree_is : ts q ≡ Some (plug w s)
   pub leads : Leads a q place w
-  pub stands : Stands a part place s
+  pub stands : Hangs a part place s
   pub free : (element_at a e).leaf_p ≡ places.Nowhere
   pub exists : e < length a.elements
 
 -- what follows of the arena after it
 pub record Outcome (a z : Parts) (q : ℕ) (w : List Step) (part : Target) (place : Place) (s : Tree) (e : ℕ) (side : Side) (bit : ℤ) : Type 0 where
   pub grew : Grew a z part place e side bit
-  pub stands : Stands z (link_at z q) (root_place z q) (plug w (grown side e bit (element_at a e).key s))
+  pub stands : Hangs z (link_at z q) (root_place z q) (plug w (grown side e bit (element_at a e).key s))
   pub others : (r : ℕ) → (r ≡ q → ⊥) → link_at z r ≡ link_at a r
   pub nodes_hang : (x : ℕ) → (x ≡ e → ⊥) → (part ≡ targets.Node x → ⊥) → (element_at z x).node_p ≡ (element_at a x).node_p
-  pub away_from : (t : Tree) (o : Target) (p : Place) → Stands a o p t → Fresh e t → NoShare (plug w s) t → SameOn a z t
+  pub away_from : (t : Tree) (o : Target) (p : Place) → Hangs a o p t → Fresh e t → NoShare (plug w s) t → SameOn a z t
 
-root_stands : (a : Parts) (ts : ℕ → Option Tree) (q : ℕ) (t : Tree) → Shape a ts → q < length a.links → ts q ≡ Some t → Stands a (link_at a q) (root_place a q) t × Split t
+root_stands : (a : Parts) (ts : ℕ → Option Tree) (q : ℕ) (t : Tree) → Shape a ts → q < length a.links → ts q ≡ Some t → Hangs a (link_at a q) (root_place a q) t × Split t
 root_stands a ts q t h f e = subst (IsRoot a q) e (h.roots q f)
 
 pub plug_leaf : (w : List Step) (t : Tree) (x : ℕ) → HasLeaf x t → HasLeaf x (plug w t)
@@ -138,15 +138,15 @@ plug_node [] t x h = h
 plug_node (from_left i b r ∷ w) t x h = plug_node w (fork i b t r) x (inr (inl h))
 plug_node (from_right i b l ∷ w) t x h = plug_node w (fork i b l t) x (inr (inr h))
 
-part_in : (a : Parts) (part : Target) (place : Place) (s : Tree) → Stands a part place s → index_of part < length a.elements
+part_in : (a : Parts) (part : Target) (place : Place) (s : Tree) → Hangs a part place s → index_of part < length a.elements
 part_in a part place (tip e k) s = subst (λ n. n < length a.elements) (sym (ap index_of s.0)) s.1
 part_in a part place (fork i b l r) s = subst (λ n. n < length a.elements) (sym (ap index_of s.0)) s.1
 
-part_not : (a : Parts) (part : Target) (place : Place) (s : Tree) (e : ℕ) → Stands a part place s → Fresh e s → index_of part ≡ e → ⊥
+part_not : (a : Parts) (part : Target) (place : Place) (s : Tree) (e : ℕ) → Hangs a part place s → Fresh e s → index_of part ≡ e → ⊥
 part_not a part place (tip x k) e s f h = f.leaf (sym h ∙ ap index_of s.0)
 part_not a part place (fork i b l r) e s f h = f.node (inl (sym h ∙ ap index_of s.0))
 
-no_node_at_root : (a : Parts) (q : ℕ) (target : Target) (place : Place) (t : Tree) → Stands a target place t → HasNode (length a.elements + q) t → ⊥
+no_node_at_root : (a : Parts) (q : ℕ) (target : Target) (place : Place) (t : Tree) → Hangs a target place t → HasNode (length a.elements + q) t → ⊥
 no_node_at_root a q target place (tip x k) s h = absurd h
 no_node_at_root a q target place (fork i b l r) s h =
     elim h [
@@ -154,16 +154,16 @@ no_node_at_root a q target place (fork i b l r) s h =
       | inr g ↦ elim g [ inl g ↦ no_node_at_root a q _ _ l s.4 g | inr g ↦ no_node_at_root a q _ _ r s.5 g ]
     ]
 
-root_outcome : (a z : Parts) (q : ℕ) (part : Target) (s : Tree) (e : ℕ) (side : Side) (bit : ℤ) → GrewRoot a z part q e side bit → e < length a.elements → q < length a.links → Stands a part (root_place a q) s → Distinct s → Fresh e s → Split s → Outcome a z q [] part (root_place a q) s e side bit
+root_outcome : (a z : Parts) (q : ℕ) (part : Target) (s : Tree) (e : ℕ) (side : Side) (bit : ℤ) → GrewRoot a z part q e side bit → e < length a.elements → q < length a.links → Hangs a part (root_place a q) s → Distinct s → Fresh e s → Split s → Outcome a z q [] part (root_place a q) s e side bit
 root_outcome a z q part s e side bit x f fq h d fr p =
     let g : Grew a z part (root_place a q) e side bit = x.grew in
-    let m : Stands z part (places.Under e (opposite side)) s = moved_part a z part (root_place a q) e side bit s g h d fr (no_node_at_root a q part (root_place a q) s h) in
-    let n : Stands z (targets.Node e) (root_place a q) (grown side e bit (element_at a e).key s) = new_stands a z part (root_place a q) e side bit s g f m in
+    let m : Hangs z part (places.Under e (opposite side)) s = moved_part a z part (root_place a q) e side bit s g h d fr (no_node_at_root a q part (root_place a q) s h) in
+    let n : Hangs z (targets.Node e) (root_place a q) (grown side e bit (element_at a e).key s) = new_stands a z part (root_place a q) e side bit s g f m in
     let l : link_at z q ≡ targets.Node e = ap (λ y. get_or y q targets.Nothing) x.links ∙ get_or-set_same a.links q (targets.Node e) targets.Nothing fq in
     let o : root_place a q ≡ root_place z q = ap (λ y. places.Under (y + q) sides.Left) (sym g.count) in
     record {
       grew = g;
-      stands = subst (λ y. Stands z y (root_place z q) (grown side e bit (element_at a e).key s)) (sym l) (subst (λ y. Stands z (targets.Node e) y (grown side e bit (element_at a e).key s)) o n);
+      stands = subst (λ y. Hangs z y (root_place z q) (grown side e bit (element_at a e).key s)) (sym l) (subst (λ y. Hangs z (targets.Node e) y (grown side e bit (element_at a e).key s)) o n);
       others = λ r ne. ap (λ y. get_or y r targets.Nothing) x.links ∙ get_or-set_other a.links q r (targets.Node e) targets.Nothing ne;
       nodes_hang = x.hang;
       away_from = λ t o p st ft ns. same_on a z part (root_place a q) e side bit t g ft (λ y k v. ns.leaves y (top_leaf a part (root_place a q) s y h k) v) (λ y k v. ns.nodes y (top_node a part (root_place a q) s y h k) v) (no_node_at_root a q o p t st);
@@ -171,19 +171,19 @@ root_outcome a z q part s e side bit x f fq h d fr p =
 
 on_root : (a : Parts) (ts : ℕ → Option Tree) (q : ℕ) (part : Target) (place : Place) (s : Tree) (e : ℕ) (side : Side) (bit : ℤ) → Growth a ts q [] part place s e → Outcome a (attached a part place e side bit) q [] part place s e side bit
 on_root a ts q part place s e side bit g =
-    let r : Stands a (link_at a q) (root_place a q) s × Split s = root_stands a ts q s g.shape g.root g.tree_is in
+    let r : Hangs a (link_at a q) (root_place a q) s × Split s = root_stands a ts q s g.shape g.root g.tree_is in
     let d : Distinct s = distinct a q s [] part place g.stands g.leads r.1 in
     let f : Fresh e s = fresh a q e s part place [] g.stands g.leads r.1 g.free in
     let here : (p : Place) → p ≡ root_place a q → Outcome a (attached a part p e side bit) q [] part p s e side bit = λ p h.
     let x : GrewRoot a (attached a part (root_place a q) e side bit) part q e side bit = grew_root a part q e side bit g.exists (part_in a part place s g.stands) (part_not a part place s e g.stands f) in
-    subst (λ m. Outcome a (attached a part m e side bit) q [] part m s e side bit) (sym h) (root_outcome a (attached a part (root_place a q) e side bit) q part s e side bit x g.exists g.root (subst (λ m. Stands a part m s) g.leads g.stands) d f r.1)
+    subst (λ m. Outcome a (attached a part m e side bit) q [] part m s e side bit) (sym h) (root_outcome a (attached a part (root_place a q) e side bit) q part s e side bit x g.exists g.root (subst (λ m. Hangs a part m s) g.leads g.stands) d f r.1)
     in here place g.leads
 
 on_left : (a : Parts) (ts : ℕ → Option Tree) (q j : ℕ) (b : ℤ) (r : Tree) (w : List Step) (part : Target) (s : Tree) (e : ℕ) (side : Side) (bit : ℤ) → Growth a ts q (from_left j b r ∷ w) part (places.Under j sides.Left) s e → Outcome a (attached a part (places.Under j sides.Left) e side bit) q (from_left j b r ∷ w) part (places.Under j sides.Left) s e side bit
 on_left a ts q j b r w part s e side bit g =
     let place : Place = places.Under j sides.Left in
     let t : Tree = fork j b s r in
-    let root : Stands a (link_at a q) (root_place a q) (plug w t) × Split (plug w t) = root_stands a ts q (plug w t) g.shape g.root g.tree_is in
+    let root : Hangs a (link_at a q) (root_place a q) (plug w t) × Split (plug w t) = root_stands a ts q (plug w t) g.shape g.root g.tree_is in
     let dw : Distinct (plug w t) = distinct a q (plug w t) [] _ _ root.0 refl root.1 in
     let d : Distinct t = part_distinct w t dw in
     let fw : Fresh e (plug w t) = fresh a q e (plug w t) _ _ [] root.0 refl root.1 g.free in
@@ -195,25 +195,25 @@ on_left a ts q j b r w part s e side bit g =
     let x : GrewAt a (attached a part place e side bit) part j sides.Left e side bit = grew_at a part j sides.Left e side bit g.exists (part_in a part place s g.stands) (part_not a part place s e g.stands fs) g.leads.1 ne np in
     let z : Parts = attached a part place e side bit in
     let gr : Grew a z part place e side bit = x.grew in
-    let m : Stands z part (places.Under e (opposite side)) s = moved_part a z part place e side bit s gr g.stands d.3 fs d.1 in
+    let m : Hangs z part (places.Under e (opposite side)) s = moved_part a z part place e side bit s gr g.stands d.3 fs d.1 in
     let new : Tree = grown side e bit (element_at a e).key s in
-    let n : Stands z (targets.Node e) place new = new_stands a z part place e side bit s gr g.exists m in
+    let n : Hangs z (targets.Node e) place new = new_stands a z part place e side bit s gr g.exists m in
     let so : SameOn a z r = same_on a z part place e side bit r gr fo (λ y k v. d.0.leaves y (top_leaf a part place s y g.stands k) v) (λ y k v. d.0.nodes y (top_node a part place s y g.stands k) v) d.2 in
-    let top : (o : Target) (p : Place) → Stands a o p t → Stands z o p (fork j b new r) = λ o p h. (
+    let top : (o : Target) (p : Place) → Hangs a o p t → Hangs z o p (fork j b new r) = λ o p h. (
       h.0,
       subst (λ y. j < y) (sym gr.count) h.1,
       x.node_p ∙ h.2,
       x.node_bit ∙ h.3,
-      subst (λ y. Stands z y (places.Under j sides.Left) new) (sym (ap (λ y. y.left) x.node)) n,
-      subst (λ y. Stands z y (places.Under j sides.Right) r) (sym x.far) (kept a z _ _ r gr.count so h.5),
+      subst (λ y. Hangs z y (places.Under j sides.Left) new) (sym (ap (λ y. y.left) x.node)) n,
+      subst (λ y. Hangs z y (places.Under j sides.Right) r) (sym x.far) (kept a z _ _ r gr.count so h.5),
     ) in
     let sw : SameWay a z w = same_way a z part place e side bit w t gr (fresh_way w t e fw) (away w t dw) (λ y k. inl (top_leaf a part place s y g.stands k)) (λ y k. inr (inl (top_node a part place s y g.stands k))) (inl refl) in
-    let up : Stands z (link_at a q) (root_place a q) (plug w (fork j b new r)) = lift a z w t (fork j b new r) gr.count sw top (link_at a q) (root_place a q) root.0 in
+    let up : Hangs z (link_at a q) (root_place a q) (plug w (fork j b new r)) = lift a z w t (fork j b new r) gr.count sw top (link_at a q) (root_place a q) root.0 in
     let lk : link_at a q ≡ link_at z q = ap (λ y. get_or y q targets.Nothing) (sym x.links) in
     let o : root_place a q ≡ root_place z q = ap (λ y. places.Under (y + q) sides.Left) (sym gr.count) in
     record {
       grew = gr;
-      stands = subst (λ y. Stands z y (root_place z q) (plug w (fork j b new r))) lk (subst (λ y. Stands z (link_at a q) y (plug w (fork j b new r))) o up);
+      stands = subst (λ y. Hangs z y (root_place z q) (plug w (fork j b new r))) lk (subst (λ y. Hangs z (link_at a q) y (plug w (fork j b new r))) o up);
       others = λ r k. ap (λ y. get_or y r targets.Nothing) x.links;
       nodes_hang = λ y m k. elim (cases_eq j y) [ inl h ↦ subst (λ v. (element_at z v).node_p ≡ (element_at a v).node_p) h x.node_p | inr o ↦ (gr.nodes y m k o).node_p ];
       away_from = λ u o p st ft ns. same_on a z part place e side bit u gr ft (λ y k v. ns.leaves y (plug_leaf w t y (inl (top_leaf a part place s y g.stands k))) v) (λ y k v. ns.nodes y (plug_node w t y (inr (inl (top_node a part place s y g.stands k)))) v) (λ v. ns.nodes j (plug_node w t j (inl refl)) v);
@@ -223,7 +223,7 @@ on_right : (a : Parts) (ts : ℕ → Option Tree) (q j : ℕ) (b : ℤ) (l : Tre
 on_right a ts q j b l w part s e side bit g =
     let place : Place = places.Under j sides.Right in
     let t : Tree = fork j b l s in
-    let root : Stands a (link_at a q) (root_place a q) (plug w t) × Split (plug w t) = root_stands a ts q (plug w t) g.shape g.root g.tree_is in
+    let root : Hangs a (link_at a q) (root_place a q) (plug w t) × Split (plug w t) = root_stands a ts q (plug w t) g.shape g.root g.tree_is in
     let dw : Distinct (plug w t) = distinct a q (plug w t) [] _ _ root.0 refl root.1 in
     let d : Distinct t = part_distinct w t dw in
     let fw : Fresh e (plug w t) = fresh a q e (plug w t) _ _ [] root.0 refl root.1 g.free in
@@ -235,25 +235,25 @@ on_right a ts q j b l w part s e side bit g =
     let x : GrewAt a (attached a part place e side bit) part j sides.Right e side bit = grew_at a part j sides.Right e side bit g.exists (part_in a part place s g.stands) (part_not a part place s e g.stands fs) g.leads.1 ne np in
     let z : Parts = attached a part place e side bit in
     let gr : Grew a z part place e side bit = x.grew in
-    let m : Stands z part (places.Under e (opposite side)) s = moved_part a z part place e side bit s gr g.stands d.4 fs d.2 in
+    let m : Hangs z part (places.Under e (opposite side)) s = moved_part a z part place e side bit s gr g.stands d.4 fs d.2 in
     let new : Tree = grown side e bit (element_at a e).key s in
-    let n : Stands z (targets.Node e) place new = new_stands a z part place e side bit s gr g.exists m in
+    let n : Hangs z (targets.Node e) place new = new_stands a z part place e side bit s gr g.exists m in
     let so : SameOn a z l = same_on a z part place e side bit l gr fo (λ y k v. d.0.leaves y v (top_leaf a part place s y g.stands k)) (λ y k v. d.0.nodes y v (top_node a part place s y g.stands k)) d.1 in
-    let top : (o : Target) (p : Place) → Stands a o p t → Stands z o p (fork j b l new) = λ o p h. (
+    let top : (o : Target) (p : Place) → Hangs a o p t → Hangs z o p (fork j b l new) = λ o p h. (
       h.0,
       subst (λ y. j < y) (sym gr.count) h.1,
       x.node_p ∙ h.2,
       x.node_bit ∙ h.3,
-      subst (λ y. Stands z y (places.Under j sides.Left) l) (sym x.far) (kept a z _ _ l gr.count so h.4),
-      subst (λ y. Stands z y (places.Under j sides.Right) new) (sym (ap (λ y. y.right) x.node)) n,
+      subst (λ y. Hangs z y (places.Under j sides.Left) l) (sym x.far) (kept a z _ _ l gr.count so h.4),
+      subst (λ y. Hangs z y (places.Under j sides.Right) new) (sym (ap (λ y. y.right) x.node)) n,
     ) in
     let sw : SameWay a z w = same_way a z part place e side bit w t gr (fresh_way w t e fw) (away w t dw) (λ y k. inr (top_leaf a part place s y g.stands k)) (λ y k. inr (inr (top_node a part place s y g.stands k))) (inl refl) in
-    let up : Stands z (link_at a q) (root_place a q) (plug w (fork j b l new)) = lift a z w t (fork j b l new) gr.count sw top (link_at a q) (root_place a q) root.0 in
+    let up : Hangs z (link_at a q) (root_place a q) (plug w (fork j b l new)) = lift a z w t (fork j b l new) gr.count sw top (link_at a q) (root_place a q) root.0 in
     let lk : link_at a q ≡ link_at z q = ap (λ y. get_or y q targets.Nothing) (sym x.links) in
     let o : root_place a q ≡ root_place z q = ap (λ y. places.Under (y + q) sides.Left) (sym gr.count) in
     record {
       grew = gr;
-      stands = subst (λ y. Stands z y (root_place z q) (plug w (fork j b l new))) lk (subst (λ y. Stands z (link_at a q) y (plug w (fork j b l new))) o up);
+      stands = subst (λ y. Hangs z y (root_place z q) (plug w (fork j b l new))) lk (subst (λ y. Hangs z (link_at a q) y (plug w (fork j b l new))) o up);
       others = λ r k. ap (λ y. get_or y r targets.Nothing) x.links;
       nodes_hang = λ y m k. elim (cases_eq j y) [ inl h ↦ subst (λ v. (element_at z v).node_p ≡ (element_at a v).node_p) h x.node_p | inr o ↦ (gr.nodes y m k o).node_p ];
       away_from = λ u o p st ft ns. same_on a z part place e side bit u gr ft (λ y k v. ns.leaves y (plug_leaf w t y (inr (top_leaf a part place s y g.stands k))) v) (λ y k v. ns.nodes y (plug_node w t y (inr (inr (top_node a part place s y g.stands k)))) v) (λ v. ns.nodes j (plug_node w t j (inl refl)) v);
@@ -302,14 +302,14 @@ tree_at ts q o = ap (λ b. if b then o else ts q) (eq-eqb q q refl)
 pub tree_other : (ts : ℕ → Option Tree) (q r : ℕ) (o : Option Tree) → (r ≡ q → ⊥) → with_tree ts q o r ≡ ts r
 tree_other ts q r o n = ap (λ b. if b then o else ts r) (ne_eqb r q n)
 
-root_same : (a z : Parts) (r q : ℕ) (o : Option Tree) (t : Tree) (e : ℕ) → length z.elements ≡ length a.elements → link_at z r ≡ link_at a r → IsRoot a r o → (r ≡ q → ⊥) → Stands a (link_at a q) (root_place a q) t → Split t → (element_at a e).leaf_p ≡ places.Nowhere → ((u : Tree) (g : Target) (p : Place) → Stands a g p u → Fresh e u → NoShare t u → SameOn a z u) → IsRoot z r o
+root_same : (a z : Parts) (r q : ℕ) (o : Option Tree) (t : Tree) (e : ℕ) → length z.elements ≡ length a.elements → link_at z r ≡ link_at a r → IsRoot a r o → (r ≡ q → ⊥) → Hangs a (link_at a q) (root_place a q) t → Split t → (element_at a e).leaf_p ≡ places.Nowhere → ((u : Tree) (g : Target) (p : Place) → Hangs a g p u → Fresh e u → NoShare t u → SameOn a z u) → IsRoot z r o
 root_same a z r q None t e n l h ne s p fr f = l ∙ h
 root_same a z r q (Some u) t e n l h ne s p fr f =
     let o : root_place a r ≡ root_place z r = ap (λ y. places.Under (y + r) sides.Left) (sym n) in
     let fu : Fresh e u = fresh a r e u _ _ [] h.0 refl h.1 fr in
     let ns : NoShare t u = roots_apart a q r _ _ t u s h.0 p h.1 (λ k. ne (sym k)) in
-    let k : Stands z (link_at a r) (root_place a r) u = kept a z _ _ u n (f u _ _ h.0 fu ns) h.0 in
-    (subst (λ y. Stands z y (root_place z r) u) (sym l) (subst (λ y. Stands z (link_at a r) y u) o k), h.1)
+    let k : Hangs z (link_at a r) (root_place a r) u = kept a z _ _ u n (f u _ _ h.0 fu ns) h.0 in
+    (subst (λ y. Hangs z y (root_place z r) u) (sym l) (subst (λ y. Hangs z (link_at a r) y u) o k), h.1)
 
 some_later : (ts : ℕ → Option Tree) (q r : ℕ) (t u : Tree) (P : Tree → Type 0) → ts q ≡ Some t → (P t → P u) → IsSomeAnd (ts r) P → IsSomeAnd (with_tree ts q (Some u) r) P
 some_later ts q r t u P h f s =
@@ -363,7 +363,7 @@ grown_shape a ts q w part place s e side bit g sp =
     let o : Outcome a z q w part place s e side bit = outcome a ts q w part place s e side bit g in
     let new : Tree = grown side e bit (element_at a e).key s in
     let us : ℕ → Option Tree = with_tree ts q (Some (plug w new)) in
-    let rt : Stands a (link_at a q) (root_place a q) (plug w s) × Split (plug w s) = root_stands a ts q (plug w s) g.shape g.root g.tree_is in
+    let rt : Hangs a (link_at a q) (root_place a q) (plug w s) × Split (plug w s) = root_stands a ts q (plug w s) g.shape g.root g.tree_is in
     let here : InSome z us (HasLeaf e) = (q, (subst (λ m. q < m) (sym o.grew.roots) g.root, subst (λ y. IsSomeAnd y (HasLeaf e)) (sym (tree_at ts q (Some (plug w new)))) (plug_leaf w new e (own_leaf side e bit (element_at a e).key s)))) in
     let node_here : InSome z us (HasNode e) = (q, (subst (λ m. q < m) (sym o.grew.roots) g.root, subst (λ y. IsSomeAnd y (HasNode e)) (sym (tree_at ts q (Some (plug w new)))) (plug_node w new e (own_node side e bit (element_at a e).key s)))) in
     record {

@@ -4,7 +4,7 @@ use Rattle.eb_arena.specs.declared.links.Target.{Target}
 use Rattle.eb_arena.specs.declared.links.Target.TheVariants as targets
 use Rattle.eb_arena.specs.declared.links.Place.{Place}
 use Rattle.eb_arena.specs.Parts.{Parts, element_at}
-use Rattle.eb_arena.specs.Shape.{Tree, tip, fork, items, Keys, Stands, Split, Shape}
+use Rattle.eb_arena.specs.Shape.{Tree, tip, fork, items, Keys, Hangs, Split, Shape}
 use Rattle.eb_arena.specs.Way.{Step, from_left, from_right, plug, Leads}
 use Rattle.eb_dups.specs.Grown.{Grows, with_tree}
 
@@ -67,14 +67,14 @@ pub record KeyHead (a : Parts) (head : Target) (key : ℕ) : Type 0 where
   pub exists : root < length a.links
   pub tree_is : trees root ≡ Some (plug way tree)
   pub leads : Leads a root place way
-  pub stands : Stands a head place tree
+  pub stands : Hangs a head place tree
   pub whole : IsWhole way
   pub twins : IsTwins tree
   pub keys : Keys (λ x. x ≡ key) tree
 
 -- the spine value of what stands there has room for one more
 abbrev pub MayRise : Parts → Target → Type 0
-MayRise a head = (place : Place) (tree : Tree) → Stands a head place tree → spine_value tree < 2 ^ 63 - 1
+MayRise a head = (place : Place) (tree : Tree) → Hangs a head place tree → spine_value tree < 2 ^ 63 - 1
 
 -- the head of the key after an insertion: the entry's node where each depth of the spine was taken, and else the head as it was
 abbrev pub head_after : Target → Tree → ℕ → Target
@@ -93,7 +93,7 @@ pub record TwinAdded (a z : Parts) (trees : ℕ → Option Tree) (root : ℕ) (w
   pub keys : Keys (λ x. x ≡ key) after
   pub place : Place
   pub leads : Leads z root place way
-  pub stands : Stands z (head_after head tree entry) place after
+  pub stands : Hangs z (head_after head tree entry) place after
 
 -- the way of steps up along a right spine
 abbrev pub IsSpine : List Step → Type 0
@@ -113,7 +113,7 @@ HasGap (from_right i (negsuc n) l ∷ d) s = depth s < n
 pub record IsTwinTree (a : Parts) (target : Target) : Type 0 where
   pub place : Place
   pub tree : Tree
-  pub stands : Stands a target place tree
+  pub stands : Hangs a target place tree
   pub split : Split tree
   pub twins : IsTwins tree
 
@@ -121,12 +121,12 @@ pub record IsTwinTree (a : Parts) (target : Target) : Type 0 where
 pub record IsSlot (a : Parts) (head slot : Target) : Type 0 where
   pub place : Place
   pub tree : Tree
-  pub stands : Stands a head place tree
+  pub stands : Hangs a head place tree
   pub split : Split tree
   pub steps : List Step
   pub part : Tree
   pub part_place : Place
-  pub part_stands : Stands a slot part_place part
+  pub part_stands : Hangs a slot part_place part
   pub part_is : tree ≡ plug steps part
   pub spine : IsSpine steps
   pub leads : (q : ℕ) (w : List Step) → Leads a q place w → Leads a q part_place (steps ++ w)

@@ -209,3 +209,10 @@ fn a_clone_stays_as_it_was(rt: HostRuntime) -> Result<(), Fail> {
     assert_eq!(rt; machine.box_group(0, 0), 1);
     Ok(())
 }
+
+fn goes_to_threads<T: Send>(_value: &T) {}
+
+#[test]
+fn a_log_goes_from_thread_to_thread(rt: HostRuntime) {
+    goes_to_threads(&Log::new(rt.alloc()));
+}

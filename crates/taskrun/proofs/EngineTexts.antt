@@ -20,8 +20,8 @@ use Rattle.transcript.specs.HasText.{HasTextSeen, HasTextCall, HasTextEntry}
 use Rattle.transcript.specs.Spelling.{head_text, round_text, end_text}
 use Rattle.run_texts.specs.RunText.{text_of, rounds_text}
 use Rattle.run_texts.proofs.Pieces.{text_of_pieces}
-use Rattle.taskrun.specs.Play.{worker, task, World, made, replied, collected, acted_all, ended, ran, turn_with, turned, actions_of, is_quiet, cleared, rounds_from, rests_from, opened, play, tick_after}
-use Rattle.taskrun.specs.Stands.{at, Stands, IsAction, Settled}
+use Rattle.taskrun.specs.Play.{worker, task, World, made, replied, collected, acted_all, ended, ran, turn_with, turned, actions_of, is_quiet, cleared, rounds_from, rests_from, first_world, play, tick_after}
+use Rattle.taskrun.specs.Stands.{at, IsAt, IsAction, Settled}
 use Rattle.taskrun.specs.Engine.{Waiting, Ready}
 use Rattle.taskrun.proofs.OneTask.{is_task_id, after_take, after_act}
 use Rattle.taskrun.proofs.EngineForm.{Formed}
@@ -33,7 +33,7 @@ Texts w = All HasTextEntry w.entries
 
 -- the one task stands somewhere, and was taken at most n times
 abbrev pub Alone : State → ℕ → Type 0
-Alone s n = (p : Place) × Stands s p n
+Alone s n = (p : Place) × IsAt s p n
 
 seen_at_place : (p : Place) (pending : ℕ) (killed : Bool) (takes : ℕ) → takes < 2 ^ 48 → HasTextSeen (seen_of (at p pending killed takes))
 seen_at_place places.Rest pending killed takes few = few
@@ -72,7 +72,7 @@ has_action (Kill i) w n ok a few =
 -- the actions of a row: their entries have a text, and the task runs on
 record ActedTexts (w : World) (n : ℕ) : Type 0 where
   texts : Texts w
-  runs : Stands w.state (places.Runs worker) n
+  runs : IsAt w.state (places.Runs worker) n
 
 texts_acted : (actions : List Action) (w : World) (n : ℕ) → AllByRecursion IsAction actions → n < 2 ^ 48 → ActedTexts w n → ActedTexts (acted_all actions w) n
 texts_acted [] w n ok few h = h
@@ -83,7 +83,7 @@ texts_acted (a ∷ actions) w n ok few h =
     })
 
 -- a drop leaves the one task alone
-alone_dropped : (s : State) (n : ℕ) → Stands s (places.Runs worker) n → Alone (after s worker (calls.DropRun task)) n
+alone_dropped : (s : State) (n : ℕ) → IsAt s (places.Runs worker) n → Alone (after s worker (calls.DropRun task)) n
 alone_dropped s n st = (
   if is_busy (at (places.Runs worker) st.pending st.killed st.takes) then places.Hands worker else places.Rest,
   record {
@@ -107,7 +107,7 @@ texts_ended w n h few =
     let texts = texts_made (calls.DropRun task) w h.texts (seen_alone w.state n (places.Runs worker, h.runs) few) in
     texts_retired (is_killed reply) v (record v { queued = has_reasons reply }) n texts texts (alone_dropped w.state n h.runs) few
 
-texts_ran : (actions : List Action) (w : World) (n : ℕ) → AllByRecursion IsAction actions → Stands w.state (places.Hands worker) n → n + 1 < 2 ^ 48 → Texts w → Texts (ran actions w)
+texts_ran : (actions : List Action) (w : World) (n : ℕ) → AllByRecursion IsAction actions → IsAt w.state (places.Hands worker) n → n + 1 < 2 ^ 48 → Texts w → Texts (ran actions w)
 unfolding ran
 texts_ran actions w n ok st few texts =
     let u : World = record w { queued = false } in
@@ -155,9 +155,9 @@ rounds_from_text (suc n) r s T w =
     text_step (is_quiet v) r (round_text r T v.entries) (rounds_from n s (tick_after s T) (cleared v)) (rests_from n s (cleared v)) _ (rounds_from_text n (r + 1) s (tick_after s T) (cleared v))
 
 -- the text of the run
-pub play_text : (s : Script) → text_of (play s) ≡ head_text ++ text_from 0 s.rounds s s.start (opened s)
+pub play_text : (s : Script) → text_of (play s) ≡ head_text ++ text_from 0 s.rounds s s.start (first_world s)
 play_text s =
-    text_of_pieces (play s) ∙ ap (λ t. head_text ++ t) (rw zero-add at (rounds_from_text s.rounds 0 s s.start (opened s)))
+    text_of_pieces (play s) ∙ ap (λ t. head_text ++ t) (rw zero-add at (rounds_from_text s.rounds 0 s s.start (first_world s)))
 
 -- the text where a round comes next
 pub text_next : (r rounds : ℕ) (s : Script) (T : ℕ) (w : World) → r < rounds → let v = turned s w in text_from r (rounds - r) s T w ≡ round_text r T v.entries ++ (if is_quiet v then end_text true r else text_from (r + 1) (rounds - (r + 1)) s (tick_after s T) (cleared v))

@@ -10,8 +10,8 @@ use Rattle.task_machine.specs.Task.{resting, seated}
 use Rattle.task_machine.specs.Step.{State, task_at, put_task, mask_of}
 use Rattle.run_model.specs.Standing.{opening}
 use Rattle.run_model.specs.Tables.{blank_row, blank_task}
-use Rattle.taskrun.specs.Play.{worker, World, collected, ran, turn_with, turned, actions_of, opened, cleared}
-use Rattle.taskrun.specs.Stands.{at, one, Stands, IsAction, Phase, rests, waits, boxed, is_over, place_in, queued_in, Settled}
+use Rattle.taskrun.specs.Play.{worker, World, collected, ran, turn_with, turned, actions_of, first_world, cleared}
+use Rattle.taskrun.specs.Stands.{at, one, IsAt, IsAction, Phase, rests, waits, boxed, is_over, place_in, queued_in, Settled}
 use Rattle.taskrun.specs.Engine.{Waiting, Ready, first_init}
 use Rattle.taskrun.proofs.Acts.{Form, script_of_form, world, runs}
 use Rattle.taskrun.proofs.EngineForm.{OneForm, Formed}
@@ -49,14 +49,14 @@ settled_collected w n st =
 pub settled_world : (w v : World) (n : ℕ) → w ≡ v → Settled w n → Settled v n
 settled_world w v n e st = subst (λ w. Settled w n) e st
 
-hands_by : (phase : Phase) (w : World) (n : ℕ) → Stands w.state (place_in phase) n → queued_in phase ≡ true → Stands w.state (places.Hands worker) n
+hands_by : (phase : Phase) (w : World) (n : ℕ) → IsAt w.state (place_in phase) n → queued_in phase ≡ true → IsAt w.state (places.Hands worker) n
 hands_by rests w n st e = cc
 hands_by waits w n st e = st
 hands_by boxed w n st e = cc
 hands_by is_over w n st e = cc
 
 -- a task that is queued is in the worker's hands
-pub queued_in_hands : (w : World) (n : ℕ) → Settled w n → w.queued ≡ true → Stands w.state (places.Hands worker) n
+pub queued_in_hands : (w : World) (n : ℕ) → Settled w n → w.queued ≡ true → IsAt w.state (places.Hands worker) n
 queued_in_hands w n st e = hands_by st.phase w n st.stands (sym st.queued ∙ e)
 
 -- a form with these actions
@@ -69,7 +69,7 @@ settled_after_run actions pending killed takes n queued entries ok few room =
     (runs (form_with actions) 0 0 pending killed takes n queued entries ok few room).settled
 
 -- a run leaves the world settled
-pub settled_ran : (actions : List Action) (w : World) (n : ℕ) → AllByRecursion IsAction actions → Stands w.state (places.Hands worker) n → n < 2 ^ 48 - 1 → Settled (ran actions w) (n + 1)
+pub settled_ran : (actions : List Action) (w : World) (n : ℕ) → AllByRecursion IsAction actions → IsAt w.state (places.Hands worker) n → n < 2 ^ 48 - 1 → Settled (ran actions w) (n + 1)
 settled_ran actions w n ok st room =
     subst (λ (s : State). let v : World = record w { state = s } in Settled (ran actions v) (n + 1)) (sym st.alone)
     (settled_after_run actions st.pending st.killed st.takes n w.queued w.entries ok st.few room)
@@ -172,16 +172,16 @@ pub few_by : (tasks : List TaskDef) (s : Script) → s.tasks ≡ tasks → Forme
 few_by [] s e form = (rw e (omega arith), form.0)
 few_by (d ∷ ds) s e form = (subst (λ s. length s.tasks ≤ 1) (sym form.is) (omega arith), ap (λ (s : Script). s.workers) form.is)
 
-opened_one : (f : Form) (init : Bool) → Settled (opened (script_of_form (record f { init = init }))) 0
+opened_one : (f : Form) (init : Bool) → Settled (first_world (script_of_form (record f { init = init }))) 0
 opened_one f true = settled_by boxed 1 false 0 0 _ (omega arith) refl refl
 opened_one f false = settled_by rests 0 false 0 0 _ (omega arith) refl refl
 
-ready_opened_by : (tasks : List TaskDef) (s : Script) → s.tasks ≡ tasks → Formed tasks s → Waiting tasks (opened s) 0
+ready_opened_by : (tasks : List TaskDef) (s : Script) → s.tasks ≡ tasks → Formed tasks s → Waiting tasks (first_world s) 0
 ready_opened_by [] s e form =
     let x : Script = record s { workers = 1; tasks = [] } in
     ap (λ (n : ℕ). let y : Script = record s { workers = n } in (opening y).state) form.0 ∙ ap (λ (ts : List TaskDef). let y : Script = record s { workers = 1; tasks = ts } in (opening y).state) e
-ready_opened_by (d ∷ ds) s e form = subst (λ s. Settled (opened s) 0) (sym form.is) (opened_one form.form form.form.init)
+ready_opened_by (d ∷ ds) s e form = subst (λ s. Settled (first_world s) 0) (sym form.is) (opened_one form.form form.form.init)
 
 -- the world before round 0
-pub ready_opened : (s : Script) → Formed s.tasks s → Ready s (opened s) 0
+pub ready_opened : (s : Script) → Formed s.tasks s → Ready s (first_world s) 0
 ready_opened s form = ready_opened_by s.tasks s refl form

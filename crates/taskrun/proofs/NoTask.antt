@@ -10,7 +10,7 @@ use Rattle.run_model.specs.Book.{queued as queue, filled}
 use Rattle.run_model.specs.Turn.{Turn}
 use Rattle.run_model.specs.Standing.{blank_book, opening}
 use Rattle.run_model.specs.Lawful.{Goes, LawfulRun}
-use Rattle.taskrun.specs.Play.{worker, World, turned, rounds_from, rests_from, opened, play}
+use Rattle.taskrun.specs.Play.{worker, World, turned, rounds_from, rests_from, first_world, play}
 use Rattle.taskrun.proofs.Went.{Went, went_then, went_quiet, went_from, went_at}
 use Rattle.taskrun.proofs.TurnOf.{after_some, filled_by, no_draws}
 use Rattle.taskrun.proofs.RunOf.{round_by}
@@ -48,12 +48,12 @@ no_turn depth start step rounds T w =
     })
     (no_draws s T w b))))
 
-goes_once : (n depth start step rounds : ℕ) → let s = script_without depth start step rounds in Goes s (rests_from (suc n) s (opened s)) 0 start (opening s) (rounds_from (suc n) s start (opened s))
+goes_once : (n depth start step rounds : ℕ) → let s = script_without depth start step rounds in Goes s (rests_from (suc n) s (first_world s)) 0 start (opening s) (rounds_from (suc n) s start (first_world s))
 unfolding turned
 goes_once n depth start step rounds =
     let s = script_without depth start step rounds in
-    let went = no_turn depth start step rounds start (opened s) in
-    let round = round_by depth start step rounds [] 0 start (opened s) (opened s) (blank_book 0) (blank_book 0) refl refl went in
+    let went = no_turn depth start step rounds start (first_world s) in
+    let round = round_by depth start step rounds [] 0 start (first_world s) (first_world s) (blank_book 0) (blank_book 0) refl refl went in
     (opening s, round, (refl, refl))
 
 -- the run of a script with no task is lawful
@@ -61,4 +61,4 @@ pub lawful_none : (depth start step rounds : ℕ) → 1 ≤ rounds → let s = s
 lawful_none depth start step rounds some =
     let s = script_without depth start step rounds in
     let first = after_some rounds (omega arith) in
-    subst (λ n. Goes s (rests_from n s (opened s)) 0 start (opening s) (rounds_from n s start (opened s))) (sym first.1) (goes_once first.0 depth start step rounds)
+    subst (λ n. Goes s (rests_from n s (first_world s)) 0 start (opening s) (rounds_from n s start (first_world s))) (sym first.1) (goes_once first.0 depth start step rounds)

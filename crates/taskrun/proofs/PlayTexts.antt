@@ -18,7 +18,7 @@ use Rattle.run_texts.specs.RunText.{HasText}
 use Rattle.run_texts.specs.RunText.{text_of}
 use Rattle.transcript.specs.Judging.{lines_of}
 use Rattle.run_texts.proofs.RunsAgain.{text_again}
-use Rattle.taskrun.specs.Play.{World, turned, is_quiet, cleared, rounds_from, rests_from, opened, play, tick_after}
+use Rattle.taskrun.specs.Play.{World, turned, is_quiet, cleared, rounds_from, rests_from, first_world, play, tick_after}
 use Rattle.taskrun.specs.Stands.{one, IsAction, Settled}
 use Rattle.taskrun.proofs.Went.{IsMine, SmallCall}
 use Rattle.taskrun.proofs.Acts.{Form, script_of_form, book, BookFor}
@@ -74,11 +74,11 @@ some_rounds (suc n) s T w h = omega arith
 
 one_has_text : (f : Form) → Ranged (script_of_form f) → AllByRecursion IsAction f.actions → HasText (play (script_of_form f))
 one_has_text f range ok = record {
-  begun = some_rounds f.rounds (script_of_form f) f.start (opened (script_of_form f)) range.some_rounds;
-  lines = lines_rounds f.rounds 0 f f.start 0 (opened (script_of_form f)) (book 0 []) (rests_from f.rounds (script_of_form f) (opened (script_of_form f))) range.some_depth ok (omega (arith, range.few_rounds)) (omega (arith, range.few_rounds)) (omega (arith, range.start)) (settled_opening f f.init) (record { count = 0; key = pos 0; is = refl }) refl (small_opening f f.init);
+  begun = some_rounds f.rounds (script_of_form f) f.start (first_world (script_of_form f)) range.some_rounds;
+  lines = lines_rounds f.rounds 0 f f.start 0 (first_world (script_of_form f)) (book 0 []) (rests_from f.rounds (script_of_form f) (first_world (script_of_form f))) range.some_depth ok (omega (arith, range.few_rounds)) (omega (arith, range.few_rounds)) (omega (arith, range.start)) (settled_opening f f.init) (record { count = 0; key = pos 0; is = refl }) refl (small_opening f f.init);
 }
 
-lines_once : (n depth start step rounds : ℕ) (rest : Bool) → start < 2 ^ 32 → let s = script_without depth start step rounds in AllByRecursion HasTextLine (lines_from 0 (rounds_from (suc n) s start (opened s)) rest)
+lines_once : (n depth start step rounds : ℕ) (rest : Bool) → start < 2 ^ 32 → let s = script_without depth start step rounds in AllByRecursion HasTextLine (lines_from 0 (rounds_from (suc n) s start (first_world s)) rest)
 unfolding turned
 lines_once n depth start step rounds rest tick = ((omega arith, tick), (omega arith, tt))
 
@@ -87,9 +87,9 @@ none_has_text depth start step rounds range =
     let s = script_without depth start step rounds in
     let first = after_some rounds (omega (arith, range.some_rounds)) in
     record {
-      begun = some_rounds rounds s start (opened s) range.some_rounds;
-      lines = subst (λ n. AllByRecursion HasTextLine (lines_from 0 (rounds_from n s start (opened s)) (rests_from rounds s (opened s)))) (sym first.1)
-          (lines_once first.0 depth start step rounds (rests_from rounds s (opened s)) (omega (arith, range.start)));
+      begun = some_rounds rounds s start (first_world s) range.some_rounds;
+      lines = subst (λ n. AllByRecursion HasTextLine (lines_from 0 (rounds_from n s start (first_world s)) (rests_from rounds s (first_world s)))) (sym first.1)
+          (lines_once first.0 depth start step rounds (rests_from rounds s (first_world s)) (omega (arith, range.start)));
     }
 
 text_by_tasks : (s : Script) (tasks : List TaskDef) → s.tasks ≡ tasks → Ranged s → Formed tasks s → HasText (play s)

@@ -13,7 +13,7 @@ use Rattle.run_model.specs.Book.{Book}
 use Rattle.run_model.specs.Turn.{Turn}
 use Rattle.run_model.specs.Standing.{Standing, in_shared, was_drawn, draws_of, turn_ended, is_at_rest, no_timer, opening}
 use Rattle.run_model.specs.Lawful.{RoundOf, Goes, LawfulRun}
-use Rattle.taskrun.specs.Play.{worker, World, turned, is_quiet, cleared, tick_after, rounds_from, rests_from, opened, play}
+use Rattle.taskrun.specs.Play.{worker, World, turned, is_quiet, cleared, tick_after, rounds_from, rests_from, first_world, play}
 use Rattle.taskrun.specs.Stands.{at, one, IsAction, Phase, rests, waits, boxed, is_over, place_in, Settled}
 use Rattle.taskrun.proofs.Went.{Went, IsMine}
 use Rattle.taskrun.proofs.Acts.{Form, script_of_form, book, BookFor}
@@ -133,11 +133,11 @@ goes (suc n) r f T k w b h ok left some room st for clear =
     (new, out.round, subst (λ x. MatchBool x ((more ≡ []) × (rest ≡ true)) (MatchBool (r + 1 == f.rounds) ((more ≡ []) × (rest ≡ false)) (Goes s rest (r + 1) (tick_after s T) new more))) (sym (at_rest_is f r v out.ends v.queued out.book_for)) next)
 
 -- the opening of a run
-pub settled_opening : (f : Form) (init : Bool) → Settled (opened (script_of_form (record f { init = init }))) 0
+pub settled_opening : (f : Form) (init : Bool) → Settled (first_world (script_of_form (record f { init = init }))) 0
 settled_opening f true = record { phase = boxed; stands = record { pending = 1; killed = false; takes = 0; alone = refl; few = omega arith }; queued = refl }
 settled_opening f false = record { phase = rests; stands = record { pending = 0; killed = false; takes = 0; alone = refl; few = omega arith }; queued = refl }
 
 -- the run of a script with one task is lawful
 pub lawful_one : (f : Form) → 1 ≤ f.depth → 1 ≤ f.rounds → f.rounds ≤ 100000 → AllByRecursion IsAction f.actions → LawfulRun (script_of_form f) (play (script_of_form f))
 lawful_one f h some few ok =
-    goes f.rounds 0 f f.start 0 (opened (script_of_form f)) (book 0 []) h ok (omega arith) (omega arith) (omega arith) (settled_opening f f.init) (record { count = 0; key = pos 0; is = refl }) refl
+    goes f.rounds 0 f f.start 0 (first_world (script_of_form f)) (book 0 []) h ok (omega arith) (omega arith) (omega arith) (settled_opening f f.init) (record { count = 0; key = pos 0; is = refl }) refl

@@ -5,7 +5,7 @@ use Rattle.step_tables.specs.declared.tables.Script.{Script}
 use Rattle.step_tables.specs.declared.tables.TaskDef.{TaskDef}
 use Rattle.taskrun.specs.declared.engine.Engine.{Engine}
 use Rattle.taskrun.specs.Play.{worker, World}
-use Rattle.taskrun.specs.Stands.{Stands, Settled}
+use Rattle.taskrun.specs.Stands.{IsAt, Settled}
 
 -- the machine's state, whether the task is queued, and the entries of the round
 abbrev pub world_of : Engine → World
@@ -17,11 +17,11 @@ Spare e n = length e.log.entries + n ≤ e.log.room
 
 -- the worker has the task in its hands, and may take it
 abbrev pub InHands : World → Type 0
-InHands w = Stands w.state (places.Hands worker) (2 ^ 40)
+InHands w = IsAt w.state (places.Hands worker) (2 ^ 40)
 
 -- the worker runs the task
 abbrev pub Running : World → Type 0
-Running w = Stands w.state (places.Runs worker) (2 ^ 40 + 1)
+Running w = IsAt w.state (places.Runs worker) (2 ^ 40 + 1)
 
 -- a world between two turns of a script with these tasks, after at most n takes
 abbrev pub Waiting : List TaskDef → World → ℕ → Type 0

@@ -109,9 +109,9 @@ rests_from zero s w = false
 rests_from (suc n) s w = let v = turned s w in if is_quiet v then true else rests_from n s (cleared v)
 
 -- the world before round 0
-abbrev pub opened : Script → World
-opened s = record { state = (opening s).state; queued = false; entries = [] }
+abbrev pub first_world : Script → World
+first_world s = record { state = (opening s).state; queued = false; entries = [] }
 
 -- the run that the worker makes of the script
 abbrev pub play : Script → Run
-play s = record { rounds = rounds_from s.rounds s s.start (opened s); rest = rests_from s.rounds s (opened s) }
+play s = record { rounds = rounds_from s.rounds s s.start (first_world s); rest = rests_from s.rounds s (first_world s) }

@@ -17,7 +17,7 @@ abbrev pub one : TaskState → State
 one t = record { workers = 1; tasks = t ∷ [] }
 
 -- the one task stands at this place, and was taken at most n times
-pub record Stands (s : State) (p : Place) (n : ℕ) : Type 0 where
+pub record IsAt (s : State) (p : Place) (n : ℕ) : Type 0 where
   pub pending : ℕ
   pub killed : Bool
   pub takes : ℕ
@@ -51,5 +51,5 @@ queued_in is_over = false
 -- the world between two turns, after at most n takes
 pub record Settled (w : World) (n : ℕ) : Type 0 where
   pub phase : Phase
-  pub stands : Stands w.state (place_in phase) n
+  pub stands : IsAt w.state (place_in phase) n
   pub queued : w.queued ≡ queued_in phase

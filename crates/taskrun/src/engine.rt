@@ -8,7 +8,7 @@ ghost use Rattle.taskrun.specs.FirstForm.{is_first_form};
 ghost use Rattle.run_model.specs.Replies.{is_killed, has_reasons};
 ghost use Rattle.run_model.specs.Standing.{opening, is_still_at};
 ghost use Rattle.run_model.specs.Tables.{call_of, blank_row};
-ghost use Rattle.taskrun.specs.Play.{worker, replied, made, has_members, collected, acted_all, ended, ran, turned, is_quiet, cleared, opened};
+ghost use Rattle.taskrun.specs.Play.{worker, replied, made, has_members, collected, acted_all, ended, ran, turned, is_quiet, cleared, first_world};
 ghost use Rattle.taskrun.specs.Stands.{IsAction, Settled};
 ghost use Rattle.taskrun.specs.Engine.{world_of, Spare, InHands, Running, Ready, first_init};
 
@@ -38,7 +38,7 @@ impl Engine {
     /// The engine before round 0 of a script of the first form.
     pub(crate) fn new(alloc: Global, script: &Script) -> Result<Engine, AllocError>
         requires { IsTrue (is_first_form script.now) }
-        ensures world { IfOk result (λ e. world_of e ≡ opened script.now) }
+        ensures world { IfOk result (λ e. world_of e ≡ first_world script.now) }
         ensures spare { IfOk result (λ e. Spare e 20) }
     {
         let machine = machine_of(alloc, script)?;

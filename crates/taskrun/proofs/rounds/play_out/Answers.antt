@@ -2,7 +2,7 @@ use Rattle.std.proofs.Common.{◌≡◌, ℕ, List, false, ◌<◌, ◌+◌, ◌
 use Rattle.sched_base.specs.Streams.{Appends, AppendsFront}
 use Rattle.transcript.specs.Spelling.{head_text, end_text}
 use Rattle.run_texts.specs.RunText.{text_of}
-use Rattle.taskrun.specs.Play.{World, turned, cleared, opened, play, tick_after}
+use Rattle.taskrun.specs.Play.{World, turned, cleared, first_world, play, tick_after}
 use Rattle.taskrun.specs.Engine.{world_of, Ready}
 use Rattle.taskrun.proofs.EngineForm.{formed, ranged}
 use Rattle.taskrun.proofs.EngineTurns.{ready_opened, ready_turned, ready_up, ready_cleared}
@@ -23,7 +23,7 @@ loop-round-init g c =
       clear = clear;
       room = omega (arith, c.in_ok-engine.ensures.spare);
       written = written_start _ _ _ (play_text s
-          ∙ ap (λ t. t ++ text_from 0 s.rounds s s.start (opened s)) (sym head)
+          ∙ ap (λ t. t ++ text_from 0 s.rounds s s.start (first_world s)) (sym head)
           ∙ ap (λ w. items ++ text_from 0 s.rounds s s.start w) (sym world)
           ∙ ap (λ n. items ++ text_from 0 n s s.start (world_of c.in_ok-engine.engine)) all
           ∙ ap (λ n. items ++ text_from 0 (s.rounds - 0) s n (world_of c.in_ok-engine.engine)) (sym c.start-tick.ensures.same));
