@@ -67,45 +67,29 @@ Answers read before after (TextRefused fault) = ⊥
 abbrev pub Expected : Result Script ScriptFault → Status → Type 0
 Expected read Done = OnScript read (λ script. Unit {0})
 Expected read (ScriptRefused fault) = IsRefused read fault
-Expected read Usage = ⊥
-Expected read ReadFault = ⊥
-Expected read WriteFault = ⊥
 Expected read NoMemory = Unit {0}
-Expected read (NotLawful line) = ⊥
-Expected read (TextRefused fault) = ⊥
+Expected read status = ⊥
 
 -- an answer that comes once the script's text is read
 abbrev pub IsRunning : Status → Type 0
 IsRunning Done = Unit {0}
 IsRunning (ScriptRefused fault) = Unit {0}
-IsRunning Usage = ⊥
-IsRunning ReadFault = ⊥
 IsRunning WriteFault = Unit {0}
 IsRunning NoMemory = Unit {0}
-IsRunning (NotLawful line) = ⊥
-IsRunning (TextRefused fault) = ⊥
+IsRunning status = ⊥
 
 -- an answer after which nothing was written
 abbrev pub IsUnwritten : Status → Type 0
-IsUnwritten Done = ⊥
 IsUnwritten (ScriptRefused fault) = Unit {0}
 IsUnwritten Usage = Unit {0}
 IsUnwritten ReadFault = Unit {0}
-IsUnwritten WriteFault = ⊥
-IsUnwritten NoMemory = ⊥
-IsUnwritten (NotLawful line) = ⊥
-IsUnwritten (TextRefused fault) = ⊥
+IsUnwritten status = ⊥
 
 -- an answer of the command run
 abbrev pub IsOfRun : Status → Type 0
-IsOfRun Done = Unit {0}
-IsOfRun (ScriptRefused fault) = Unit {0}
-IsOfRun Usage = Unit {0}
-IsOfRun ReadFault = Unit {0}
-IsOfRun WriteFault = Unit {0}
-IsOfRun NoMemory = Unit {0}
 IsOfRun (NotLawful line) = ⊥
 IsOfRun (TextRefused fault) = ⊥
+IsOfRun status = Unit {0}
 
 -- at most so many bytes were read
 abbrev pub ReadsAtMost : ℕ → Option (List ℕ) → Option (List ℕ) → Type 0

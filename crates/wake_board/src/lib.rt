@@ -7,6 +7,8 @@ mod body;
 mod open;
 mod pass;
 mod passes;
+#[cfg(test)]
+mod tests;
 mod views;
 mod words;
 
@@ -15,3 +17,6 @@ pub use body::Body;
 pub use pass::Pass;
 pub use passes::Passes;
 pub use words::Words;
+
+/// The number that stands for nobody in a list of holders.
+pub const NO_HOLDER: u32 = u32::MAX;
