@@ -6,7 +6,6 @@ ghost use Rattle.run_queue.specs.Runners.{Fits as RunsFit};
 ghost use Rattle.wait_queue.specs.Timers.{Fits as TimersFit, insertions_of};
 
 use eb32_core::Forest;
-use eb32_walk::{lookup_le, next_dup, next_unique, prev};
 use run_queue::RunQueue;
 use sched_base::{KeyedLists, TaskId};
 use std::test::Fail;
@@ -79,50 +78,5 @@ fn tasks_are_picked_from_a_forest(rt: HostRuntime) -> Result<(), Fail> {
     let mut forest = Forest::new(rt.alloc(), 2, 8)?;
     let mut queue = RunQueue::new(1, 200);
     assert_eq!(rt; runs(&mut forest, &mut queue), [Some(3), Some(1), None]);
-    Ok(())
-}
-
-/// Puts an entry into a root, where it stands in none.
-fn add(forest: &mut Forest, root: u32, entry: u32, key: u32) {
-    let arena = forest.arena();
-    if root >= arena.roots() || entry >= arena.entries() || forest.insertions(root) >= 1 << 62 {
-        return;
-    }
-    if let None = forest.is_in(entry) {
-        KeyedLists::insert(forest, root, entry, key);
-    }
-}
-
-/// The entry before this one, the next of its key, the next of another key, and the last of its root
-/// under at most a key.
-fn around(forest: &Forest, entry: u32, key: u32) -> [Option<u32>; 4] {
-    let Some(root) = forest.is_in(entry) else {
-        return [None; 4];
-    };
-    let arena = forest.arena();
-    [
-        prev(arena, entry),
-        next_dup(arena, entry),
-        next_unique(arena, entry),
-        lookup_le(arena, root, key),
-    ]
-}
-
-#[test]
-fn walks_go_over_the_arena_of_a_forest(rt: HostRuntime) -> Result<(), Fail> {
-    let mut forest = Forest::new(rt.alloc(), 1, 6)?;
-    for (entry, key) in [(0, 5), (1, 5), (2, 5), (3, 5), (4, 8)] {
-        add(&mut forest, 0, entry, key);
-    }
-    let seen = [
-        (0, 4, [None, Some(1), Some(4), None]),
-        (2, 7, [Some(1), Some(3), Some(4), Some(3)]),
-        (3, 8, [Some(2), None, Some(4), Some(4)]),
-        (4, 5, [Some(3), None, None, Some(3)]),
-        (5, 5, [None; 4]),
-    ];
-    for (entry, key, wanted) in seen {
-        assert_eq!(rt; around(&forest, entry, key), wanted);
-    }
     Ok(())
 }
