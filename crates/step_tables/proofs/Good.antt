@@ -11,7 +11,7 @@ use Rattle.step_tables.specs.Shapes.{TaskLine, RowLine, EventLine}
 use Rattle.step_tables.specs.Judging.{no_number, delay_no_number, place_no_number, first_fault, task_tests, row_tests, event_tests, place_outside, delay_outside, outside, value, unknown, named, order_name, due, promised, wrong_target, barred, last_round}
 
 -- no kind was found, so the first test does not hold, and no kind is found behind it
-pub passes : (b : Bool) (kind : ℕ) (rest : Option ℕ) → cond b (Some kind) rest ≡ None → (b ≡ false) × (rest ≡ None)
+pub passes : {K : Type 0} (b : Bool) (kind : K) (rest : Option K) → cond b (Some kind) rest ≡ None → (b ≡ false) × (rest ≡ None)
 passes true kind rest e = absurd (none-some kind (sym e))
 passes false kind rest e = (refl, e)
 

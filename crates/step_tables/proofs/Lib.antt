@@ -1,7 +1,4 @@
 mod Examples
-pub mod Pieces
-pub mod Digits
-pub mod Reasons
 pub mod Options
 pub mod Good
 pub mod Steps
@@ -14,8 +11,8 @@ pub mod WordsBack
 pub mod SoFarSaid
 pub mod ReadBack
 pub mod Limit
+pub mod WholeText
 pub mod NameAt
-pub mod ListText
 pub mod LineTexts
 pub mod WordsAgain
 pub mod ShapesAgain

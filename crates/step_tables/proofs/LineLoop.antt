@@ -9,7 +9,7 @@ use Rattle.step_tables.specs.declared.faults.ScriptError.TheVariants.{Refused, M
 use Rattle.step_tables.specs.Views.{Takes, Gives}
 use Rattle.step_tables.specs.Words.{pieces}
 use Rattle.step_tables.specs.Judging.{taken, closed, go_on, judged}
-use Rattle.step_tables.proofs.Pieces.{pieces_not_empty}
+use Rattle.text_lines.proofs.Cuts.{pieces_not_empty}
 use Rattle.step_tables.proofs.Steps.{judged_more, few_taken}
 
 -- so many lines were read of bytes, and the others decide

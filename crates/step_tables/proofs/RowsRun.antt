@@ -5,6 +5,7 @@ use Rattle.std.specs.List.{list_all}
 use Rattle.std.proofs.lemmas.Bool.Decides.{nat_tests}
 use Rattle.std.proofs.lemmas.List.{map-append, length-map, get_or_at}
 use Rattle.std.proofs.lemmas.List.Folds.{list_all-append}
+use Rattle.step_tables.specs.declared.faults.FaultKind.TheVariants as kinds
 use Rattle.step_tables.specs.declared.tables.Kind.{Kind}
 use Rattle.step_tables.specs.declared.tables.Row.{Row}
 use Rattle.step_tables.specs.declared.tables.TaskDef.{TaskDef}
@@ -81,14 +82,14 @@ row_passes p u rows r now =
       words = row_words p.tasks u.kind rows u.name (length u.rows) r now.fine now.few k_small named e;
       comes = ap not now.left;
       good =
-          no_kind _ 3 _ (both_false (no_number (decimal (length u.rows))) _ (is_number (length u.rows) k_small) (both_false (delay_no_number (delay_said r.expiry)) _ (delay_number u.kind r.expiry expiry) (is_number r.next next_small)))
-          (no_kind _ 4 _ (both_false (unknown p.tasks u.name) _ (ap (unknown p.tasks) (sym (due_name p u now.is_due)) ∙ known_again p.tasks p.at now.distinct at) (orders_known p.tasks r.actions now.distinct actions))
-          (no_kind _ 6 _ (ap (λ d. wrong_target p d (row_line_of (names_of p.tasks) u.name (length u.rows) r)) now.is_due
+          no_kind _ kinds.Number _ (both_false (no_number (decimal (length u.rows))) _ (is_number (length u.rows) k_small) (both_false (delay_no_number (delay_said r.expiry)) _ (delay_number u.kind r.expiry expiry) (is_number r.next next_small)))
+          (no_kind _ kinds.UnknownTask _ (both_false (unknown p.tasks u.name) _ (ap (unknown p.tasks) (sym (due_name p u now.is_due)) ∙ known_again p.tasks p.at now.distinct at) (orders_known p.tasks r.actions now.distinct actions))
+          (no_kind _ kinds.RowTarget _ (ap (λ d. wrong_target p d (row_line_of (names_of p.tasks) u.name (length u.rows) r)) now.is_due
           ∙ both_false (not (bytes_eq u.name u.name)) _ (ap not (same_word u.name))
           (both_false (not (value (decimal (length u.rows)) == length u.rows)) _ (equal_test _ _ (value_again (length u.rows) k_small))
           ((λ i. nat_le (now.promise i) (value_again r.next next_small i)) ∙ below_test r.next rows next)))
-          (no_kind _ 7 _ (ap (λ d. barred d (delay_said r.expiry)) now.is_due ∙ delay_allowed u.kind r.expiry expiry)
-          (no_kind _ 8 None (both_false (nat_lt 16 (length (map (order_said (names_of p.tasks)) r.actions))) _ (ap (nat_lt 16) (length-map r.actions (order_said (names_of p.tasks))) ∙ few_test (length r.actions) (first_of_both (nat_le (length r.actions) 16) _ e)) (delay_inside u.kind r.expiry expiry)) refl))));
+          (no_kind _ kinds.ExpiryBarred _ (ap (λ d. barred d (delay_said r.expiry)) now.is_due ∙ delay_allowed u.kind r.expiry expiry)
+          (no_kind _ kinds.LimitPassed None (both_false (nat_lt 16 (length (map (order_said (names_of p.tasks)) r.actions))) _ (ap (nat_lt 16) (length-map r.actions (order_said (names_of p.tasks))) ∙ few_test (length r.actions) (first_of_both (nat_le (length r.actions) 16) _ e)) (delay_inside u.kind r.expiry expiry)) refl))));
     }
 
 -- and adds itself

@@ -3,6 +3,7 @@ use Rattle.std.proofs.Common.{◌≡◌, ℕ, ◌+◌, ◌-◌, ◌^◌, ◌<◌
 use Rattle.std.specs.Prelude.{Option, Some, None, Ok, Err, codes, ◌||◌, ◌==◌, decimal}
 use Rattle.std.specs.List.{join_with_byte, list_all}
 use Rattle.std.proofs.lemmas.Bool.Decides.{nat_tests}
+use Rattle.step_tables.specs.declared.faults.FaultKind.TheVariants as kinds
 use Rattle.step_tables.specs.declared.progress.Progress.{Progress}
 use Rattle.step_tables.specs.declared.shapes.Setting.{Setting}
 use Rattle.step_tables.specs.declared.shapes.Setting.TheVariants.{Workers, Depth, Start, Step, Rounds}
@@ -42,7 +43,7 @@ pub runs_to : (p q r : Progress) (xs : List Said) → Runs p xs q → q ≡ r �
 runs_to p q r xs h e = subst (Runs p xs) e h
 
 -- no kind is found where no test holds
-pub no_kind : (b : Bool) (kind : ℕ) (rest : Option ℕ) → b ≡ false → rest ≡ None → cond b (Some kind) rest ≡ None
+pub no_kind : {K : Type 0} (b : Bool) (kind : K) (rest : Option K) → b ≡ false → rest ≡ None → cond b (Some kind) rest ≡ None
 no_kind true kind rest e f = absurd (cc)
 no_kind false kind rest e f = f
 
@@ -80,7 +81,7 @@ taken_said n p x later unended says comes good =
     chosen_else p.ended (Err _) (at_line n (judge n p (bytes_of x))) unended
     ∙ ap (at_line n) (chosen_else (n == 1) _ (judge_said p (said_of n (bytes_of x))) (not_first n later)
     ∙ ap (judge_said p) says
-    ∙ chosen_then (may_come p x) _ (Err 2) comes
+    ∙ chosen_then (may_come p x) _ (Err kinds.Word) comes
     ∙ ap (λ k. judge_tested k (with_line p x)) good)
 
 body_said_again : (n : ℕ) (x : Said) → 6 < n → IsBody x → are_words (said_words x) ≡ true → said_of n (bytes_of x) ≡ Some x
@@ -130,7 +131,7 @@ setting_step n setting v p lines later at unended range small some =
     judged_more None n p (bytes_of (sets setting (decimal v))) lines some
     ∙ ap (λ t. go_on t (λ k. judged None (n + 1) k lines))
     (taken_said n p (sets setting (decimal v)) later unended (setting_said_again n setting v at small) refl
-    (no_kind _ 3 _ (is_number v small) (no_kind _ 8 None (ap (outside (least setting) (most setting)) (value_again v small) ∙ range) refl)))
+    (no_kind _ kinds.Number _ (is_number v small) (no_kind _ kinds.LimitPassed None (ap (outside (least setting) (most setting)) (value_again v small) ∙ range) refl)))
     ∙ ap (λ m. judged None (n + 1) (with_setting p setting m) lines) (value_again v small)
 
 -- the first line

@@ -1,6 +1,6 @@
 -- What good lines make is in range.
-use Rattle.std.proofs.Common.{◌≡◌, ℕ, suc, zero, ◌+◌, ◌*◌, ◌^◌, ◌<◌, Bool, true, false, cond, List, [], ◌∷◌, map, length, refl, ap, sym, ◌∙◌, arith, lit<}
-use Rattle.std.specs.Prelude.{Option, Some, None, option_map, is_some, is_none, unwrap_or, bytes_eq, not, ◌&&◌, nat_le, nat_lt, ℤ}
+use Rattle.std.proofs.Common.{◌≡◌, ℕ, ◌<◌, Bool, true, false, cond, List, [], ◌∷◌, map, length, refl, ap, sym, ◌∙◌, arith}
+use Rattle.std.specs.Prelude.{Option, Some, None, is_some, is_none, unwrap_or, bytes_eq, not, ◌&&◌, nat_le, nat_lt, ℤ}
 use Rattle.std.specs.List.{list_all, list_any, position_or_len}
 use Rattle.std.proofs.lemmas.Bool.Decides.{nat_tests}
 use Rattle.std.proofs.lemmas.List.{length-map}
@@ -8,12 +8,12 @@ use Rattle.step_tables.specs.declared.tables.Kind.{Kind}
 use Rattle.step_tables.specs.declared.tables.Kind.TheVariants.{Pinned, Shared, Tasklet}
 use Rattle.step_tables.specs.declared.tables.TaskDef.{TaskDef}
 use Rattle.step_tables.specs.declared.progress.Progress.{Progress}
-use Rattle.step_tables.specs.Words.{Word, pieces, is_empty, bits_of, reason_names, reasons_of, is_name}
+use Rattle.step_tables.specs.Words.{Word, reasons_of, is_name}
+use Rattle.text_lines.proofs.ReasonsAgain as lists
 use Rattle.step_tables.specs.Shapes.{Order, wakes, kills, Delay, keeps, after, never, Place, pinned, shared, tasklet, TaskLine, RowLine, EventLine}
 use Rattle.step_tables.specs.Sound.{within, is_nice, is_sound_action, is_sound_expiry, is_sound_kind, is_sound_row}
 use Rattle.step_tables.specs.Judging.{value, signed_value, outside, outside_nice, place_outside, delay_outside, named, unknown, order_name, number_named, reasons_named, action_of, expiry_of, kind_of, task_of, row_of, event_of, barred, is_timerless, is_expiry, promised}
 use Rattle.step_tables.proofs.Back.{IsOrder, AreOrders}
-use Rattle.step_tables.proofs.Pieces.{pieces_not_empty}
 use Rattle.step_tables.proofs.Good.{neither, GoodRow, GoodEvent, GoodTask}
 use Rattle.step_tables.proofs.RowsOf.{both, IsTaskOf}
 
@@ -26,48 +26,17 @@ not_outside_nice n e = let (a, b) = neither _ _ e in both _ _ (ap not a) (ap not
 not_le : (a b : ℕ) → nat_le a b ≡ false → nat_lt b a ≡ true
 not_le a b e = grind (arith, nat_tests)
 
-twice : (m : ℕ) → 2 ^ suc m ≡ 2 * 2 ^ m
-twice m = grind arith
-
-pow_some : (m : ℕ) → 0 < 2 ^ m
-pow_some zero = lit< tt
-pow_some (suc m) = let h = twice m in let k = pow_some m in omega arith
-
 -- a reason list has a reason, and only the seven
-bits_some : (names ws : List Word) (k : ℕ) → bits_of names ws ≡ Some k → (k < 2 ^ length names) × (is_empty ws ≡ false → 0 < k)
-bits_some [] [] k e = (let z : 0 ≡ k = cc in omega arith, λ h. absurd (cc))
-bits_some [] (w ∷ ws) k e = absurd (cc)
-bits_some (n ∷ ns) [] k e = (let z : 0 ≡ k = cc in let some = pow_some (suc (length ns)) in omega arith, λ h. absurd (cc))
-bits_some (n ∷ ns) (w ∷ ws) k e = go (bytes_eq w n) (bits_of ns ws) (bits_of ns (w ∷ ws)) refl refl e (λ j h. bits_some ns ws j h) (λ j h. bits_some ns (w ∷ ws) j h)
-  where
-    go : (b : Bool) (o p : Option ℕ) → bits_of ns ws ≡ o → bits_of ns (w ∷ ws) ≡ p → cond b (option_map (λ j. 2 * j + 1) o) (option_map (λ j. 2 * j) p) ≡ Some k
-        → ((j : ℕ) → bits_of ns ws ≡ Some j → (j < 2 ^ length ns) × (is_empty ws ≡ false → 0 < j))
-        → ((j : ℕ) → bits_of ns (w ∷ ws) ≡ Some j → (j < 2 ^ length ns) × (false ≡ false → 0 < j))
-        → (k < 2 ^ suc (length ns)) × (false ≡ false → 0 < k)
-    go true None p o_is p_is h low high = absurd (cc)
-    go true (Some j) p o_is p_is h low high =
-        let k_is : 2 * j + 1 ≡ k = cc in
-        let less = (low j o_is).0 in
-        let pow = twice (length ns) in
-        (omega arith, λ t. omega arith)
-    go false o None o_is p_is h low high = absurd (cc)
-    go false o (Some j) o_is p_is h low high =
-        let k_is : 2 * j ≡ k = cc in
-        let less = (high j p_is).0 in
-        let some = (high j p_is).1 refl in
-        let pow = twice (length ns) in
-        (omega arith, λ t. omega arith)
-
 reasons_range : (list : Word) → is_some (reasons_of list) ≡ true → within 1 127 (reasons_named list) ≡ true
-unfolding reasons_named reasons_of
-reasons_range list e = go (bits_of reason_names (pieces 44 list)) refl e
+unfolding reasons_named
+reasons_range list e = go (reasons_of list) refl e
   where
     range : (k : ℕ) → 0 < k → k < 128 → within 1 127 k ≡ true
     range k low high = grind (arith, nat_tests)
 
-    go : (o : Option ℕ) → bits_of reason_names (pieces 44 list) ≡ o → is_some o ≡ true → within 1 127 (unwrap_or o 0) ≡ true
+    go : (o : Option ℕ) → reasons_of list ≡ o → is_some o ≡ true → within 1 127 (unwrap_or o 0) ≡ true
     go None h s = absurd (cc)
-    go (Some k) h s = let (less, some) = bits_some reason_names (pieces 44 list) k h in range k (some (pieces_not_empty 44 list)) less
+    go (Some k) h s = let back = lists.reasons_back list k h in range k back.1 back.2
 
 -- a known name has a task's number
 known_number : (tasks : List TaskDef) (name : Word) → unknown tasks name ≡ false → nat_lt (number_named tasks name) (length tasks) ≡ true

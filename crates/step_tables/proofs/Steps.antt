@@ -4,6 +4,7 @@ use Rattle.std.specs.Prelude.{Option, Some, None, Result, Ok, Err, codes, bytes_
 use Rattle.std.proofs.lemmas.Bool.{eqb-true}
 use Rattle.std.proofs.lemmas.Bool.Decides.{nat_tests}
 use Rattle.std.proofs.Math.ListN.{length-set}
+use Rattle.step_tables.specs.declared.faults.FaultKind.{FaultKind}
 use Rattle.step_tables.specs.declared.tables.TaskDef.{TaskDef}
 use Rattle.step_tables.specs.declared.progress.Progress.{Progress}
 use Rattle.step_tables.specs.declared.shapes.Setting.TheVariants.{Workers, Depth, Start, Step, Rounds}
@@ -50,7 +51,7 @@ pub chose : {A : Type 0} (b : Bool) (x y z : A) → cond b x y ≡ z → ((b ≡
 chose true x y z e = inl (refl, e)
 chose false x y z e = inr (refl, e)
 
-tested_back : (kind : Option ℕ) (p q : Progress) → judge_tested kind p ≡ Ok q → (kind ≡ None) × (p ≡ q)
+tested_back : (kind : Option FaultKind) (p q : Progress) → judge_tested kind p ≡ Ok q → (kind ≡ None) × (p ≡ q)
 unfolding judge_tested
 tested_back None p q e = (refl, cc)
 tested_back (Some kind) p q e = absurd (cc)
@@ -71,7 +72,7 @@ judge_back n line p q e = elim (chose (n == 1) _ _ _ e) [
   | inr h ↦ (let (s, says, adds) = said_back p q (said_of n line) h.1 in inr (record { later = h.0; said = s; says = says; adds = adds }))
 ]
 
-at_line_back : (n : ℕ) (r : Result Progress ℕ) (q : Progress) → at_line n r ≡ Ok q → r ≡ Ok q
+at_line_back : (n : ℕ) (r : Result Progress FaultKind) (q : Progress) → at_line n r ≡ Ok q → r ≡ Ok q
 at_line_back n (Ok p) q e = cc
 at_line_back n (Err kind) q e = absurd (cc)
 

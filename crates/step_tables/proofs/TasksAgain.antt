@@ -6,6 +6,7 @@ use Rattle.std.specs.Fmt.{signed_decimal}
 use Rattle.std.proofs.lemmas.Bool.Decides.{nat_tests}
 use Rattle.std.proofs.lemmas.List.{map-append, length-map}
 use Rattle.std.proofs.lemmas.List.Folds.{list_all-append}
+use Rattle.step_tables.specs.declared.faults.FaultKind.TheVariants as kinds
 use Rattle.step_tables.specs.declared.tables.Kind.{Kind}
 use Rattle.step_tables.specs.declared.tables.Kind.TheVariants.{Pinned, Shared, Tasklet}
 use Rattle.step_tables.specs.declared.tables.TaskDef.{TaskDef}
@@ -190,9 +191,9 @@ task_passes s done t rest few name kind count small distinct room = record {
   words = words_of_task;
   comes = both _ true (both true _ refl (ap (λ n. n == 0) (none_started done))) refl;
   good =
-      no_kind _ 3 _ (both_false (place_no_number (place_said t.kind)) _ (place_numbers s.workers t.kind few kind) (is_number (length t.rows) small))
-      (no_kind _ 5 _ (ap not (fresh_name (map bare done) t.name (ap (list_any (λ other. bytes_eq other t.name)) (bare_names done) ∙ new_name (names_of done) t.name (names_of rest) (ap distinct_names (sym (map-append (λ u. u.name) done (t ∷ rest))) ∙ distinct))))
-      (no_kind _ 8 None
+      no_kind _ kinds.Number _ (both_false (place_no_number (place_said t.kind)) _ (place_numbers s.workers t.kind few kind) (is_number (length t.rows) small))
+      (no_kind _ kinds.TwiceNamed _ (ap not (fresh_name (map bare done) t.name (ap (list_any (λ other. bytes_eq other t.name)) (bare_names done) ∙ new_name (names_of done) t.name (names_of rest) (ap distinct_names (sym (map-append (λ u. u.name) done (t ∷ rest))) ∙ distinct))))
+      (no_kind _ kinds.LimitPassed None
       (both_false (place_outside s.workers (place_said t.kind)) _ (place_inside s.workers t.kind few kind)
       (both_false (outside 1 64 (value (decimal (length t.rows)))) _ (ap (outside 1 64) (value_again (length t.rows) small) ∙ within_outside 1 64 (length t.rows) count)
       (ap (nat_le 4096) (length-map done bare) ∙ few_test (length done) room)))

@@ -6,6 +6,7 @@ use Rattle.std.proofs.lemmas.Bool.{eqb-true}
 use Rattle.std.proofs.lemmas.Bool.Decides.{nat_tests}
 use Rattle.std.proofs.lemmas.List.Folds.{list_all-append}
 use Rattle.std.proofs.lemmas.List.{take_all}
+use Rattle.step_tables.specs.declared.faults.FaultKind.TheVariants as kinds
 use Rattle.step_tables.specs.declared.tables.TaskDef.{TaskDef}
 use Rattle.step_tables.specs.declared.tables.Event.{Event}
 use Rattle.step_tables.specs.declared.tables.Script.{Script}
@@ -55,9 +56,9 @@ event_step s es e fine rounds sound below rises few =
         words = both true _ refl (both _ _ (number_is_word e.round small) (order_are_words s.tasks e.action fine.fine sound));
         comes = equal_test (length s.tasks) (length s.tasks) refl;
         good =
-            no_kind _ 3 _ (is_number e.round small)
-            (no_kind _ 4 _ (order_known s.tasks e.action fine.distinct sound)
-            (no_kind _ 8 None (both_false (nat_le s.rounds (value (decimal e.round))) _ (ap (nat_le s.rounds) (value_again e.round small) ∙ below_test e.round s.rounds below)
+            no_kind _ kinds.Number _ (is_number e.round small)
+            (no_kind _ kinds.UnknownTask _ (order_known s.tasks e.action fine.distinct sound)
+            (no_kind _ kinds.LimitPassed None (both_false (nat_le s.rounds (value (decimal e.round))) _ (ap (nat_le s.rounds) (value_again e.round small) ∙ below_test e.round s.rounds below)
             (both_false (nat_le 65536 (length es)) _ (below_test (length es) 65536 few)
             ((λ i. nat_lt (value_again e.round small i) (last_is 0 es i)) ∙ not_less e.round (last_from 0 es) rises))) refl));
       },

@@ -1,17 +1,21 @@
 -- From values to words, and back to the same values.
-use Rattle.std.proofs.Common.{◌≡◌, ℕ, suc, zero, ◌^◌, ◌≤◌, ◌<◌, Bool, true, false, cond, List, [], ◌∷◌, ◌++◌, length, get_or, refl, ap, sym, ◌∙◌, arith, lit<}
-use Rattle.std.specs.Prelude.{Option, Some, None, option_map, is_none, unwrap_or, not, ◌&&◌, ◌||◌, ◌==◌, nat_lt, nat_le, decimal, ℤ, pos, negsuc}
+use Rattle.std.proofs.Common.{◌≡◌, ℕ, suc, ◌^◌, ◌<◌, Bool, true, false, cond, List, [], ◌∷◌, ◌++◌, length, refl, ap, ◌∙◌, arith, lit<}
+use Rattle.std.specs.Prelude.{Option, Some, option_map, is_none, unwrap_or, not, ◌&&◌, ◌||◌, ◌==◌, nat_lt, nat_le, decimal, ℤ, pos, negsuc}
 use Rattle.std.specs.List.{list_all, list_any, join_with_byte, onto_first}
 use Rattle.std.specs.Char.{is_ascii_digit, is_ascii_lowercase, digit_value}
 use Rattle.std.specs.Fmt.{signed_decimal}
-use Rattle.std.specs.Str.Parse.{digits_value, AllDigits}
+use Rattle.std.specs.Str.Parse.{AllDigits}
 use Rattle.std.proofs.lemmas.Bool.Decides.{nat_tests}
 use Rattle.std.proofs.lemmas.List.Folds.{list_all-append}
-use Rattle.std.proofs.lemmas.Fmt.{digits_value-decimal, digits_decimal, decimal_digit, decimal_nonempty, first_decimal, length-decimal-le}
+use Rattle.std.proofs.lemmas.Fmt.{digits_decimal, decimal_nonempty}
 use Rattle.std.proofs.lemmas.Str.Parse.{numerals_by_value, tells_digits}
 use Rattle.sched_base.specs.declared.names.Class.{Class}
 use Rattle.sched_base.specs.declared.names.Class.TheVariants.{Urgent, Normal, Bulk, Heavy}
-use Rattle.step_tables.specs.Words.{Word, ◌>>=◌, only_if, pieces, is_empty, words_of, is_plain, number_of, below_zero, signed_of, is_name_byte, is_name, reasons_of, class_of}
+use Rattle.step_tables.specs.Words.{Word, ◌>>=◌, only_if, pieces, is_empty, words_of, number_of, signed_of, is_name_byte, is_name, reasons_of, class_of}
+use Rattle.text_lines.specs.Numbers.{below_zero, signed}
+use Rattle.text_lines.proofs.NumbersAgain as numbers
+use Rattle.text_lines.proofs.ReasonsAgain as lists
+use Rattle.std.proofs.lemmas.Bool.{agree_below_at}
 use Rattle.step_tables.specs.Text.{class_name, reasons_text}
 use Rattle.step_tables.specs.Judging.{value, signed_value, no_number, no_signed}
 use Rattle.step_tables.proofs.RowsOf.{both, first_of_both, second_of_both}
@@ -40,29 +44,9 @@ digits_test (d ∷ ds) a = both _ _ (digit_value_small d a.0) (digits_test ds a.
 own_digits : (n : ℕ) → n < 10 ^ 10 → list_all is_ascii_digit (decimal n) ≡ true
 own_digits n h = digits_test (decimal n) (digits_decimal (numerals_by_value (AllDigits 10) tells_digits) n (omega arith))
 
--- what is written of a number is one digit, or begins with another than 0
-plain_decimal : (ds : List ℕ) → 0 < length ds → (1 < length ds → 48 < get_or ds 0 0) → is_plain ds ≡ true
-plain_decimal [] some first = absurd (omega arith)
-plain_decimal (c ∷ []) some first = refl
-plain_decimal (c ∷ d ∷ ds) some first = not_zero c (first (omega arith))
-  where
-    not_zero : (k : ℕ) → 48 < k → not (k == 48) ≡ true
-    not_zero k h = grind (arith, nat_tests)
-
-plain_number : (n : ℕ) → n < 10 ^ 10 → is_plain (decimal n) ≡ true
-plain_number zero h = ap is_plain (decimal_digit 0 (lit< tt))
-plain_number (suc n) h = plain_decimal (decimal (suc n)) (decimal_nonempty (suc n) (omega arith)) (λ more. first_decimal (suc n) (omega arith) (omega arith))
-
 -- a number of at most ten digits is read as it was written
 pub number_again : (n : ℕ) → n < 10 ^ 10 → number_of (decimal n) ≡ Some n
-unfolding number_of
-number_again n h =
-    let short : length (decimal n) ≤ 10 = length-decimal-le 10 n (lit< tt) h (omega arith) in
-    let same : digits_value 10 (decimal n) ≡ n = digits_value-decimal (numerals_by_value (AllDigits 10) tells_digits) n (omega arith) in
-    (λ i. only_if (both (is_plain (decimal n)) _ (plain_number n h) (both (list_all is_ascii_digit (decimal n)) _ (own_digits n h) (at_most (length (decimal n)) short)) i) (same i))
-  where
-    at_most : (k : ℕ) → k ≤ 10 → nat_le k 10 ≡ true
-    at_most k e = grind (arith, nat_tests)
+number_again n h = numbers.number_again 9999999999 n (omega arith) (lit< tt)
 
 pub value_again : (n : ℕ) → n < 10 ^ 10 → value (decimal n) ≡ n
 unfolding value
@@ -73,7 +57,7 @@ unfolding no_number
 is_number n h = ap (λ o. is_none o) (number_again n h)
 
 digit_not_minus : (ds : List ℕ) → 0 < length ds → list_all is_ascii_digit ds ≡ true → (o : Option ℕ) → number_of ds ≡ o → signed_of ds ≡ option_map pos o
-unfolding signed_of
+unfolding signed
 digit_not_minus [] some e o is = absurd (omega arith)
 digit_not_minus (c ∷ ds) some e o is = go (c == 45) (not_minus c (first_of_both _ _ e))
   where
@@ -91,7 +75,7 @@ size (negsuc n) = suc n
 
 -- a signed number is read as it was written
 pub signed_again : (z : ℤ) → size z < 10 ^ 10 → signed_of (signed_decimal z) ≡ Some z
-unfolding signed_of
+unfolding signed
 signed_again (pos n) h = digit_not_minus (decimal n) (decimal_nonempty n (omega arith)) (own_digits n h) (Some n) (number_again n h)
 signed_again (negsuc n) h = ap (λ o. o >>= below_zero) (number_again (suc n) h)
 
@@ -131,56 +115,23 @@ name_is_word [] e = absurd (cc)
 name_is_word (c ∷ cs) e =
     both (is_word_byte c) _ (letter_is_word c (first_of_both _ _ e)) (all_implied is_name_byte is_word_byte cs name_byte_is_word (second_of_both (nat_le (length cs) 15) _ (second_of_both (is_ascii_lowercase c) _ e)))
 
--- a test holds of each number below the limit
-abbrev all_below : (ℕ → Bool) → ℕ → Bool
-all_below test zero = true
-all_below test (suc n) = test n && all_below test n
+-- a set of reasons is read as it was written
+pub reasons_again : (k : ℕ) → 0 < k → k < 128 → reasons_of (reasons_text k) ≡ Some k
+reasons_again k some few = lists.reasons_again k some few
 
-below_passes : (test : ℕ → Bool) (n k : ℕ) → all_below test n ≡ true → k < n → test k ≡ true
-below_passes test zero k e h = absurd (omega arith)
-below_passes test (suc n) k e h = go (λ f. below_passes test n k (second_of_both (test n) _ e) f) (nat_lt k n) refl
-  where
-    less : (a b : ℕ) → nat_lt a b ≡ true → a < b
-    less a b f = grind (arith, nat_tests)
+reasons_words : (k : ℕ) → k < 128 → (k == 0 || is_word (reasons_text k)) ≡ true
+unfolding reasons_text
+reasons_words k few = agree_below_at (λ k. k == 0 || is_word (reasons_text k)) (λ k. true) 128 k refl few
 
-    last : (a b : ℕ) → nat_lt a b ≡ false → a < suc b → b ≡ a
-    last a b f g = grind (arith, nat_tests)
-
-    go : (k < n → test k ≡ true) → (b : Bool) → nat_lt k n ≡ b → test k ≡ true
-    go before true f = before (less k n f)
-    go before false f = ap test (sym (last k n f h)) ∙ first_of_both (test n) _ e
-
-abbrev is_value : ℕ → Option ℕ → Bool
-is_value k None = false
-is_value k (Some n) = n == k
-
-reasons_pass : all_below (λ k. k == 0 || (is_value k (reasons_of (reasons_text k)) && is_word (reasons_text k))) 128 ≡ true
-unfolding reasons_of reasons_text
-reasons_pass = refl
-
-reasons_fine : (k : ℕ) → 0 < k → k < 128 → (is_value k (reasons_of (reasons_text k)) && is_word (reasons_text k)) ≡ true
-reasons_fine k some few = go (k == 0) refl (below_passes (λ j. j == 0 || (is_value j (reasons_of (reasons_text j)) && is_word (reasons_text j))) 128 k reasons_pass few)
+pub reasons_is_word : (k : ℕ) → 0 < k → k < 128 → is_word (reasons_text k) ≡ true
+reasons_is_word k some few = go (k == 0) refl (reasons_words k few)
   where
     none : (a : ℕ) → (a == 0) ≡ true → 0 < a → ⊥
     none a e h = grind (arith, nat_tests)
 
-    go : (b : Bool) → (k == 0) ≡ b → (b || (is_value k (reasons_of (reasons_text k)) && is_word (reasons_text k))) ≡ true → (is_value k (reasons_of (reasons_text k)) && is_word (reasons_text k)) ≡ true
+    go : (b : Bool) → (k == 0) ≡ b → (b || is_word (reasons_text k)) ≡ true → is_word (reasons_text k) ≡ true
     go true f g = absurd (none k f some)
     go false f g = g
-
--- a set of reasons is read as it was written
-pub reasons_again : (k : ℕ) → 0 < k → k < 128 → reasons_of (reasons_text k) ≡ Some k
-reasons_again k some few = go (reasons_of (reasons_text k)) (first_of_both _ _ (reasons_fine k some few))
-  where
-    same : (a b : ℕ) → (a == b) ≡ true → a ≡ b
-    same a b e = grind (arith, nat_tests)
-
-    go : (o : Option ℕ) → is_value k o ≡ true → o ≡ Some k
-    go None e = absurd (cc)
-    go (Some n) e = ap Some (same n k e)
-
-pub reasons_is_word : (k : ℕ) → 0 < k → k < 128 → is_word (reasons_text k) ≡ true
-reasons_is_word k some few = second_of_both (is_value k (reasons_of (reasons_text k))) _ (reasons_fine k some few)
 
 -- a class is read as it was written
 pub class_again : (c : Class) → class_of (class_name c) ≡ Some c

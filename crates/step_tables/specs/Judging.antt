@@ -15,6 +15,9 @@ use Rattle.step_tables.specs.declared.faults.ScriptFault.{ScriptFault}
 use Rattle.step_tables.specs.declared.progress.Progress.{Progress}
 use Rattle.step_tables.specs.declared.shapes.Setting.{Setting}
 use Rattle.step_tables.specs.declared.shapes.Setting.TheVariants.{Workers, Depth, Start, Step, Rounds}
+use Rattle.step_tables.specs.declared.faults.FaultKind.{FaultKind}
+use Rattle.step_tables.specs.declared.faults.FaultKind.TheVariants as kinds
+use Rattle.step_tables.specs.Faults.{number_of_kind}
 use Rattle.step_tables.specs.Words.{Word, ◌>>=◌, ◌is◌, pieces, is_empty, words_of, number_of, signed_of, reasons_of}
 use Rattle.step_tables.specs.Shapes as shapes
 use Rattle.step_tables.specs.Shapes.{Order, Delay, Place, TaskLine, RowLine, EventLine, Said, setting_line, body_line}
@@ -156,42 +159,42 @@ abbrev pub last_round : List Event → ℕ
 last_round events = unwrap_or (option_map (λ event. event.round) (slice_get events (length events - 1))) 0
 
 -- the first kind whose test holds
-abbrev pub first_fault : List (ℕ × Bool) → Option ℕ
+abbrev pub first_fault : List (FaultKind × Bool) → Option FaultKind
 first_fault [] = None
 first_fault (test ∷ tests) = if test.1 then Some test.0 else first_fault tests
 
 -- the kinds of fault that a setting's line may have, each beside its test and the lowest first: a word that is no number; a number out of its range
-abbrev pub setting_tests : Setting → Word → List (ℕ × Bool)
-setting_tests setting w = (3, no_number w) ∷ (8, outside (least setting) (most setting) (value w)) ∷ []
+abbrev pub setting_tests : Setting → Word → List (FaultKind × Bool)
+setting_tests setting w = (kinds.Number, no_number w) ∷ (kinds.LimitPassed, outside (least setting) (most setting) (value w)) ∷ []
 
 -- those of a task line: a word that is no number; a name that another task has; a number out of its range or one task too many
-abbrev pub task_tests : Progress → TaskLine → List (ℕ × Bool)
+abbrev pub task_tests : Progress → TaskLine → List (FaultKind × Bool)
 task_tests p line =
-    (3, place_no_number line.place || no_number line.rows)
-    ∷ (5, not (unknown p.tasks line.name))
-    ∷ (8, place_outside p.workers line.place || (outside 1 64 (value line.rows) || nat_le 4096 (length p.tasks)))
+    (kinds.Number, place_no_number line.place || no_number line.rows)
+    ∷ (kinds.TwiceNamed, not (unknown p.tasks line.name))
+    ∷ (kinds.LimitPassed, place_outside p.workers line.place || (outside 1 64 (value line.rows) || nat_le 4096 (length p.tasks)))
     ∷ []
 
 -- those of a row line: a word that is no number; an unknown name; not the next row or no row to go to; an expiry that is barred; too many actions or ticks out of their range
-abbrev pub row_tests : Progress → RowLine → List (ℕ × Bool)
+abbrev pub row_tests : Progress → RowLine → List (FaultKind × Bool)
 row_tests p line =
-    (3, no_number line.number || (delay_no_number line.delay || no_number line.next))
-    ∷ (4, unknown p.tasks line.name || list_any (λ order. unknown p.tasks (order_name order)) line.orders)
-    ∷ (6, wrong_target p (due p) line)
-    ∷ (7, barred (due p) line.delay)
-    ∷ (8, nat_lt 16 (length line.orders) || delay_outside line.delay)
+    (kinds.Number, no_number line.number || (delay_no_number line.delay || no_number line.next))
+    ∷ (kinds.UnknownTask, unknown p.tasks line.name || list_any (λ order. unknown p.tasks (order_name order)) line.orders)
+    ∷ (kinds.RowTarget, wrong_target p (due p) line)
+    ∷ (kinds.ExpiryBarred, barred (due p) line.delay)
+    ∷ (kinds.LimitPassed, nat_lt 16 (length line.orders) || delay_outside line.delay)
     ∷ []
 
 -- those of an event line: a word that is no number; an unknown name; a round out of its range, one event too many, or a round that falls
-abbrev pub event_tests : Progress → EventLine → List (ℕ × Bool)
+abbrev pub event_tests : Progress → EventLine → List (FaultKind × Bool)
 event_tests p line =
-    (3, no_number line.round)
-    ∷ (4, unknown p.tasks (order_name line.order))
-    ∷ (8, nat_le p.rounds (value line.round) || (nat_le 65536 (length p.events) || nat_lt (value line.round) (last_round p.events)))
+    (kinds.Number, no_number line.round)
+    ∷ (kinds.UnknownTask, unknown p.tasks (order_name line.order))
+    ∷ (kinds.LimitPassed, nat_le p.rounds (value line.round) || (nat_le 65536 (length p.events) || nat_lt (value line.round) (last_round p.events)))
     ∷ []
 
 -- those of a line by what it says; the line `end` has none
-abbrev pub tests : Progress → Said → List (ℕ × Bool)
+abbrev pub tests : Progress → Said → List (FaultKind × Bool)
 tests p (shapes.sets setting w) = setting_tests setting w
 tests p (shapes.task line) = task_tests p line
 tests p (shapes.row line) = row_tests p line
@@ -272,14 +275,14 @@ with_line p (shapes.event line) = with_event p line
 with_line p shapes.ends = record p { ended = true }
 
 -- the lowest kind, or what is read with this line
-unfoldable pub judge_tested : Option ℕ → Progress → Result Progress ℕ
+unfoldable pub judge_tested : Option FaultKind → Progress → Result Progress FaultKind
 judge_tested None p = Ok p
 judge_tested (Some kind) p = Err kind
 
 -- a line whose words say this, or fit no shape
-unfoldable pub judge_said : Progress → Option Said → Result Progress ℕ
-judge_said p None = Err 2
-judge_said p (Some said) = if may_come p said then judge_tested (first_fault (tests p said)) (with_line p said) else Err 2
+unfoldable pub judge_said : Progress → Option Said → Result Progress FaultKind
+judge_said p None = Err kinds.Word
+judge_said p (Some said) = if may_come p said then judge_tested (first_fault (tests p said)) (with_line p said) else Err kinds.Word
 
 -- the setting whose line this is
 unfoldable pub setting_at : ℕ → Option Setting
@@ -295,9 +298,9 @@ unfoldable pub said_of : ℕ → List ℕ → Option Said
 said_of n line = words_of line >>= said_in (setting_at n)
 
 -- a complete line: the kind of its fault, or what is read with it
-unfoldable pub judge : ℕ → Progress → List ℕ → Result Progress ℕ
+unfoldable pub judge : ℕ → Progress → List ℕ → Result Progress FaultKind
 judge n p line = if n == 1
-    then (if line is "taskscript 1" then Ok p else Err 1)
+    then (if line is "taskscript 1" then Ok p else Err kinds.Header)
     else judge_said p (said_of n line)
 
 -- the most bytes that a script may have
@@ -314,27 +317,27 @@ is_line None n = false
 is_line (Some long) n = long == n
 
 -- a fault, by its line and its kind
-abbrev pub fault : ℕ → ℕ → ScriptFault
-fault line kind = record { line = line; kind = kind }
+abbrev pub fault : ℕ → FaultKind → ScriptFault
+fault line kind = record { line = line; kind = number_of_kind kind }
 
 -- the script that is read
 unfoldable pub script_from : Progress → Script
 script_from p = record { version = 1; workers = p.workers; depth = p.depth; start = p.start; step = p.step; rounds = p.rounds; tasks = p.tasks; events = p.events }
 
 -- the verdict on a line, with the line's number
-abbrev pub at_line : ℕ → Result Progress ℕ → Result Progress ScriptFault
+abbrev pub at_line : ℕ → Result Progress FaultKind → Result Progress ScriptFault
 at_line n (Ok p) = Ok p
 at_line n (Err kind) = Err (fault n kind)
 
 -- what is read with a complete line, or the line's fault
 unfoldable pub taken : Option ℕ → ℕ → Progress → List ℕ → Result Progress ScriptFault
-taken long n p line = if p.ended then Err (fault n 2) else (if is_line long n then Err (fault n 8) else at_line n (judge n p line))
+taken long n p line = if p.ended then Err (fault n kinds.Word) else (if is_line long n then Err (fault n kinds.LimitPassed) else at_line n (judge n p line))
 
 -- what the open piece makes of what was read before
 unfoldable pub closed : Option ℕ → ℕ → Progress → List ℕ → Result Script ScriptFault
 closed long n p piece = if p.ended
-    then (if is_empty piece then Ok (script_from p) else Err (fault n 2))
-    else Err (fault n (if is_line long n then 8 else 9))
+    then (if is_empty piece then Ok (script_from p) else Err (fault n kinds.Word))
+    else Err (fault n (if is_line long n then kinds.LimitPassed else kinds.Truncated))
 
 -- the fault of the lines so far, or what the next lines make
 abbrev pub go_on : Result Progress ScriptFault → (Progress → Result Script ScriptFault) → Result Script ScriptFault

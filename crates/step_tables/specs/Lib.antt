@@ -1,4 +1,5 @@
 pub mod Words
+pub mod Faults
 pub mod Shapes
 pub mod Text
 pub mod Tables

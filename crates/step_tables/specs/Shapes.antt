@@ -3,6 +3,7 @@ use Rattle.std.specs.Prelude.{ℕ, zero, suc, Bool, true, false, List, [], ◌�
 use Rattle.sched_base.specs.declared.names.Class.{Class}
 use Rattle.step_tables.specs.declared.shapes.Setting.{Setting}
 use Rattle.step_tables.specs.declared.shapes.Setting.TheVariants.{Workers, Depth, Start, Step, Rounds}
+unfoldable pub use Rattle.text_lines.specs.Pieces.{word_at}
 use Rattle.step_tables.specs.Words.{Word, ◌>>=◌, ◌or_else◌, only_if, ◌is◌, is_empty, is_name, reasons_of, class_of}
 
 -- an action, with its task by name and its reasons as a word
@@ -57,11 +58,6 @@ setting_name Depth = codes "depth"
 setting_name Start = codes "start"
 setting_name Step = codes "step"
 setting_name Rounds = codes "rounds"
-
--- the first word, and the words after it
-unfoldable pub word_at : List Word → Option (Word × List Word)
-word_at [] = None
-word_at (w ∷ ws) = Some (w, ws)
 
 -- the words after this one, which stands first
 unfoldable pub past : Word → List Word → Option (List Word)

@@ -1,5 +1,5 @@
 -- The words that say what a line says, and the text of a script: docs/SCRIPT.md, "Lines" and "Text".
-use Rattle.std.specs.Prelude.{ℕ, ◌+◌, ◌/◌, ◌%◌, ◌==◌, Bool, true, false, List, [], ◌∷◌, ◌++◌, map, length, codes, flat_map, decimal, slice_index_or, if◌then◌else◌}
+use Rattle.std.specs.Prelude.{ℕ, ◌+◌, Bool, true, false, List, [], ◌∷◌, ◌++◌, map, length, codes, flat_map, decimal, slice_index_or}
 use Rattle.std.specs.List.{join_with_byte}
 use Rattle.std.specs.Fmt.{signed_decimal}
 use Rattle.sched_base.specs.declared.names.Class.{Class}
@@ -15,7 +15,9 @@ use Rattle.step_tables.specs.declared.tables.TaskDef.{TaskDef}
 use Rattle.step_tables.specs.declared.tables.Event.{Event}
 use Rattle.step_tables.specs.declared.tables.Script.{Script}
 use Rattle.step_tables.specs.declared.shapes.Setting.TheVariants.{Workers, Depth, Start, Step, Rounds}
-use Rattle.step_tables.specs.Words.{Word, reason_names}
+pub use Rattle.text_lines.specs.Added.{spaced}
+unfoldable pub use Rattle.text_lines.specs.Reasons.{reasons_word as reasons_text}
+use Rattle.step_tables.specs.Words.{Word}
 use Rattle.step_tables.specs.Shapes.{Order, wakes, kills, Delay, keeps, after, never, Place, pinned, shared, tasklet, Said, sets, task, row, event, ends, setting_name}
 
 -- the name of a class
@@ -60,15 +62,6 @@ said_words (task line) = task_word line.place ∷ line.name ∷ (place_words lin
 said_words (row line) = codes "row" ∷ line.name ∷ line.number ∷ (flat_map order_words line.orders ++ (delay_words line.delay ++ codes "next" ∷ line.next ∷ []))
 said_words (event line) = codes "event" ∷ line.round ∷ order_words line.order
 said_words ends = codes "end" ∷ []
-
--- the names of the reasons in a set, each with its bit from the lowest on
-abbrev pub reasons_in : List Word → ℕ → List Word
-reasons_in [] bits = []
-reasons_in (name ∷ names) bits = if bits % 2 == 1 then name ∷ reasons_in names (bits / 2) else reasons_in names (bits / 2)
-
--- the reason list of a set
-unfoldable pub reasons_text : ℕ → Word
-reasons_text bits = join_with_byte 44 (reasons_in reason_names bits)
 
 -- the name of the task of this number
 abbrev pub name_at : List Word → ℕ → Word
@@ -135,8 +128,3 @@ lines_text lines = flat_map (λ said. line_text (said_words said)) lines
 -- the text of a script: the one that is read as this script
 unfoldable pub script_text : Script → List ℕ
 script_text s = codes "taskscript 1" ++ 10 ∷ lines_text (settings_said s ++ body_said s.tasks s.events)
-
--- words, each behind a space
-abbrev pub spaced : List Word → List ℕ
-spaced [] = []
-spaced (word ∷ words) = 32 ∷ (word ++ spaced words)

@@ -1,16 +1,17 @@
 -- What the reader holds, as words, shapes and scripts (docs/SCRIPT.md, "Lines"): it keeps parts of the text where they lie.
-use Rattle.std.specs.Prelude.{◌≡◌, ℕ, List, [], map, Option, Some, None, Result, Ok, Err}
-use Rattle.std.specs.Borrow.{Bor}
-use Rattle.step_tables.specs.Words.{Word, pieces}
+use Rattle.std.specs.Prelude.{◌≡◌, List, map, Result, Ok, Err}
+use Rattle.step_tables.specs.Words.{Word}
 use Rattle.step_tables.specs.Shapes.{Order, wakes, kills, Delay, keeps, after, never, Place, pinned, shared, tasklet, TaskLine, RowLine, EventLine, Said, sets, task, row, event, ends}
 use Rattle.step_tables.specs.declared.tables.Script.{Script}
+use Rattle.step_tables.specs.declared.faults.FaultKind.{FaultKind}
 use Rattle.step_tables.specs.declared.faults.ScriptFault.{ScriptFault}
 use Rattle.step_tables.specs.declared.faults.ScriptError.{ScriptError}
 use Rattle.step_tables.specs.declared.faults.ScriptError.TheVariants.{Refused, Memory}
 use Rattle.step_tables.specs.declared.progress.Progress.{Progress}
 use Rattle.step_tables.specs.declared.progress.Refusal.{Refusal}
 use Rattle.step_tables.specs.declared.progress.Refusal.TheVariants.{Kind, NoMemory}
-use Rattle.step_tables.specs.declared.words.Words.{Words}
+use Rattle.text_lines.specs.declared.cursor.Words.{Words}
+pub use Rattle.text_lines.specs.Pieces.{words_in, word_and_rest}
 use Rattle.step_tables.specs.declared.shapes.Order.{Order as CodeOrder}
 use Rattle.step_tables.specs.declared.shapes.Order.TheVariants as orders
 use Rattle.step_tables.specs.declared.shapes.Delay.{Delay as CodeDelay}
@@ -22,19 +23,6 @@ use Rattle.step_tables.specs.declared.shapes.RowLine.{RowLine as CodeRowLine}
 use Rattle.step_tables.specs.declared.shapes.EventLine.{EventLine as CodeEventLine}
 use Rattle.step_tables.specs.declared.shapes.Said.{Said as CodeSaid}
 use Rattle.step_tables.specs.declared.shapes.Said.TheVariants as saids
-
--- the pieces of the bytes that are left, if any are
-abbrev pub pieces_left : ℕ → Option (Bor (List ℕ)) → List (List ℕ)
-pieces_left at None = []
-pieces_left at (Some rest) = pieces at rest.now
-
--- the words that are not yet read
-abbrev pub words_in : Words → List Word
-words_in words = pieces_left 32 words.rest
-
--- a word, and the words after it
-abbrev pub word_and_rest : Bor (List ℕ) × Words → Word × List Word
-word_and_rest found = (found.0.now, words_in found.1)
 
 -- the place of a task
 abbrev pub place_view : CodePlace → Place
@@ -86,7 +74,7 @@ said_view (saids.Event line) = event (event_view line)
 said_view saids.Ends = ends
 
 -- what was found of a line is the verdict on it, unless memory ran out
-abbrev pub Judges : Result (Unit {0}) Refusal → Progress → Result Progress ℕ → Type 0
+abbrev pub Judges : Result (Unit {0}) Refusal → Progress → Result Progress FaultKind → Type 0
 Judges (Ok done) new verdict = verdict ≡ Ok new
 Judges (Err (Kind kind)) new verdict = verdict ≡ Err kind
 Judges (Err NoMemory) new verdict = Unit {0}

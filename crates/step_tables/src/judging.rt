@@ -4,6 +4,7 @@ ghost use Rattle.std.specs.Prelude.{◌≡◌, ℕ, ◌<◌, ◌≤◌, map, len
 ghost use Rattle.step_tables.specs.Judging.{setting_tests, task_tests, row_tests, event_tests, tests, first_fault, may_come, due, promised, rows_made, wrong_target, barred, is_timerless, is_expiry, last_round, all_rows, no_row, least, most};
 ghost use Rattle.step_tables.specs.Views.{delay_view, task_view, row_view, event_view, said_view};
 
+use crate::faults::FaultKind;
 use crate::names::{any_unknown, is_named, is_unknown, unknown};
 use crate::progress::Progress;
 use crate::shapes::{Delay, EventLine, RowLine, Said, Setting, TaskLine};
@@ -36,13 +37,13 @@ pub(crate) fn most(setting: Setting) -> u64
 }
 
 /// The fault of a setting.
-fn setting_fault(setting: Setting, word: &[u8]) -> Option<u8>
+fn setting_fault(setting: Setting, word: &[u8]) -> Option<FaultKind>
     ensures { result ≡ first_fault (setting_tests setting word.now) }
 {
     if no_number(word) {
-        Some(3)
+        Some(FaultKind::Number)
     } else if outside(least(setting), most(setting), value(word)) {
-        Some(8)
+        Some(FaultKind::LimitPassed)
     } else {
         None
     }
@@ -133,18 +134,18 @@ impl Progress {
     }
 
     /// The fault of a task line.
-    fn task_fault(&self, line: &TaskLine<'_>) -> Option<u8>
+    fn task_fault(&self, line: &TaskLine<'_>) -> Option<FaultKind>
         ensures { result ≡ first_fault (task_tests self.now (task_view line.now)) }
     {
         if place_no_number(line.place) || no_number(line.rows) {
-            Some(3)
+            Some(FaultKind::Number)
         } else if !unknown(&self.tasks, line.name) {
-            Some(5)
+            Some(FaultKind::TwiceNamed)
         } else if place_outside(self.workers, line.place)
             || outside(1, 64, value(line.rows))
             || self.tasks.as_slice().len() >= 4096
         {
-            Some(8)
+            Some(FaultKind::LimitPassed)
         } else {
             None
         }
@@ -175,47 +176,47 @@ impl Progress {
     }
 
     /// The fault of a row line.
-    fn row_fault(&self, line: &RowLine<'_>) -> Option<u8>
+    fn row_fault(&self, line: &RowLine<'_>) -> Option<FaultKind>
         ensures { result ≡ first_fault (row_tests self.now (row_view line.now)) }
     {
         let tasks = &self.tasks;
         if no_number(line.number) || delay_no_number(line.delay) || no_number(line.next) {
-            Some(3)
+            Some(FaultKind::Number)
         } else if unknown(tasks, line.name) || any_unknown(tasks, &line.orders) {
-            Some(4)
+            Some(FaultKind::UnknownTask)
         } else if self.is_wrong_target(line) {
-            Some(6)
+            Some(FaultKind::RowTarget)
         } else if self.is_barred(line.delay) {
-            Some(7)
+            Some(FaultKind::ExpiryBarred)
         } else if line.orders.len() > 16 || delay_outside(line.delay) {
-            Some(8)
+            Some(FaultKind::LimitPassed)
         } else {
             None
         }
     }
 
     /// The fault of an event line.
-    fn event_fault(&self, line: &EventLine<'_>) -> Option<u8>
+    fn event_fault(&self, line: &EventLine<'_>) -> Option<FaultKind>
         ensures { result ≡ first_fault (event_tests self.now (event_view line.now)) }
     {
         let events = self.events.as_slice();
         let round = value(line.round);
         if no_number(line.round) {
-            Some(3)
+            Some(FaultKind::Number)
         } else if is_unknown(&self.tasks, &line.order) {
-            Some(4)
+            Some(FaultKind::UnknownTask)
         } else if self.rounds as u64 <= round
             || events.len() >= 65_536
             || round < last_round(events) as u64
         {
-            Some(8)
+            Some(FaultKind::LimitPassed)
         } else {
             None
         }
     }
 
     /// The kind of the fault of a line that may come now.
-    pub fn fault_of(&self, said: &Said<'_>) -> Option<u8>
+    pub fn fault_of(&self, said: &Said<'_>) -> Option<FaultKind>
         ensures { result ≡ first_fault (tests self.now (said_view said.now)) }
     {
         match said {

@@ -5,7 +5,7 @@ ghost use Rattle.step_tables.specs.declared.tables.Script.{Script};
 ghost use Rattle.step_tables.specs.Sound.{is_sound};
 ghost use Rattle.step_tables.specs.Ranges.{ScriptRange};
 ghost use Rattle.step_tables.specs.Text.{script_text};
-ghost use Rattle.step_tables.specs.Judging.{script_of, byte_limit};
+ghost use Rattle.step_tables.specs.Judging.{script_of, script_within, byte_limit};
 
 /// In a script whose tables are in range each task, row, action and event is in range.
 pub fn ranges()
@@ -22,4 +22,10 @@ pub fn read_back()
 pub fn read_again()
     ensures { (s : Script) → is_sound s ≡ true → length (script_text s) ≤ byte_limit
         → script_of (script_text s) ≡ Ok s }
+{}
+
+/// The script of a text is that of the whole text: the reader's cut behind the byte past the limit
+/// changes no answer.
+pub fn whole()
+    ensures { (bytes : List ℕ) → script_of bytes ≡ script_within byte_limit bytes }
 {}

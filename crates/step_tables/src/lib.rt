@@ -17,7 +17,7 @@ mod values;
 mod words;
 mod writing;
 
-pub use faults::{ScriptError, ScriptFault};
+pub use faults::{FaultKind, ScriptError, ScriptFault};
 pub use lists::{Actions, Events, Name, Rows, Tasks};
 pub use nexts::Nexts;
 pub use tables::{Action, Event, Expiry, Kind, Row, Script, TaskDef};

@@ -9,9 +9,9 @@ use crate::lists::Actions;
 use crate::named_tasks::NamedTasks;
 use crate::shapes::Order;
 use crate::tables::{Action, TaskDef};
-use crate::words::reasons_of;
 use sched_base::{Reasons, TaskId};
 use std::alloc::{AllocError, Global};
+use text_lines::reasons as reasons_of;
 
 /// Whether this is the task's name.
 pub(crate) fn is_named(task: &TaskDef, name: &[u8]) -> bool

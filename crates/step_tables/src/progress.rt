@@ -1,5 +1,6 @@
 //! What the lines of a script have said so far.
 
+use crate::faults::FaultKind;
 use crate::lists::{Counts, Events};
 use crate::named_tasks::NamedTasks;
 use std::alloc::AllocError;
@@ -8,7 +9,7 @@ use std::alloc::AllocError;
 #[derive(Drop)]
 pub(crate) enum Refusal {
     /// The kind of its fault.
-    Kind(u8),
+    Kind(FaultKind),
     NoMemory,
 }
 

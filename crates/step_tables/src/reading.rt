@@ -8,12 +8,13 @@ ghost use Rattle.step_tables.specs.Judging.{judge_said, setting_at, said_in, sai
 ghost use Rattle.step_tables.specs.Sound.{is_sound};
 ghost use Rattle.step_tables.specs.Views.{said_view, Judges, Takes, Gives, words_in};
 
-use crate::faults::{ScriptError, ScriptFault};
+use crate::faults::{FaultKind, ScriptError, ScriptFault};
 use crate::progress::{Progress, Refusal};
 use crate::shapes::{Said, Setting, body_line, setting_line};
 use crate::tables::Script;
-use crate::words::{Words, piece_at};
+use crate::words::words_of;
 use std::alloc::{AllocError, Global};
+use text_lines::{Words, next_line};
 
 /// The most bytes that a script may have.
 const BYTE_LIMIT: usize = 4_194_304;
@@ -52,7 +53,7 @@ fn said_of<'a>(alloc: Global, number: u32, line: &'a [u8]) -> Result<Option<Said
     requires { 1 < number }
     ensures { IfOk result (λ said. option_map said_view said ≡ said_of number line.now) }
 {
-    match Words::of(line) {
+    match words_of(line) {
         None => Ok(None),
         Some(words) => said_in(alloc, number, words),
     }
@@ -66,7 +67,7 @@ impl Progress {
         ensures { Judges result self.new (judge_said self.old (Some (said_view said.now))) }
     {
         if !self.may_come(said) {
-            return Err(Refusal::Kind(2));
+            return Err(Refusal::Kind(FaultKind::Word));
         }
         match self.fault_of(said) {
             Some(kind) => Err(Refusal::Kind(kind)),
@@ -88,11 +89,11 @@ impl Progress {
             return if line == b"taskscript 1".as_slice() {
                 Ok(())
             } else {
-                Err(Refusal::Kind(1))
+                Err(Refusal::Kind(FaultKind::Header))
             };
         }
         match said_of(alloc, number, line)? {
-            None => Err(Refusal::Kind(2)),
+            None => Err(Refusal::Kind(FaultKind::Word)),
             Some(said) => self.take_said(alloc, &said),
         }
     }
@@ -111,10 +112,10 @@ impl Progress {
         ensures { Takes result self.new (taken long number self.old line.now) }
     {
         if self.ended {
-            return refuse(number, 2);
+            return refuse(number, FaultKind::Word);
         }
         if long == Some(number) {
-            return refuse(number, 8);
+            return refuse(number, FaultKind::LimitPassed);
         }
         match self.judge(alloc, number, line) {
             Ok(()) => Ok(()),
@@ -130,10 +131,17 @@ impl Progress {
         ensures { Gives result (closed long number self piece.now) }
     {
         if !self.ended {
-            return refuse(number, if long == Some(number) { 8 } else { 9 });
+            return refuse(
+                number,
+                if long == Some(number) {
+                    FaultKind::LimitPassed
+                } else {
+                    FaultKind::Truncated
+                },
+            );
         }
         if !piece.is_empty() {
-            return refuse(number, 2);
+            return refuse(number, FaultKind::Word);
         }
         Ok(Script {
             version: 1,
@@ -149,10 +157,13 @@ impl Progress {
 }
 
 /// The fault of a line.
-fn refuse<T>(line: u32, kind: u8) -> Result<T, ScriptError>
+fn refuse<T>(line: u32, kind: FaultKind) -> Result<T, ScriptError>
     ensures { result ≡ Err (Refused (fault line kind)) }
 {
-    Err(ScriptError::Refused(ScriptFault { line, kind }))
+    Err(ScriptError::Refused(ScriptFault {
+        line,
+        kind: kind.number(),
+    }))
 }
 
 /// The line in which the byte behind the limit stands.
@@ -179,7 +190,7 @@ fn script_within(alloc: Global, limit: usize, bytes: &[u8]) -> Result<Script, Sc
     let mut number: u32 = 1;
     let mut rest = bytes;
     'lines: loop {
-        let (line, more) = piece_at(b'\n', rest);
+        let (line, more) = next_line(rest);
         let Some(more) = more else {
             return progress.close(long, number, line);
         };

@@ -5,9 +5,10 @@ ghost use Rattle.step_tables.specs.Words.{Word};
 ghost use Rattle.step_tables.specs.Shapes.{word_at, past, word_past, name_at, init_at, pinned_at, shared_at, tasklet_at, task_place_at, task_end, task_line, tasklet_line, wake_at, kill_at, order_at, orders_at, after_at, never_at, delay_at, closing, row_start, row_line, event_line, setting_name, setting_line, task_said, tasklet_said, row_said, event_said, end_said, body_line};
 ghost use Rattle.step_tables.specs.Views.{words_in, word_and_rest, place_and_rest, order_and_rest, delay_and_rest, order_view, task_view, delay_view, row_view, event_view, said_view};
 
-use crate::words::{Words, class_of, is_name, reasons_of};
+use crate::words::class_of;
 use sched_base::Class;
 use std::alloc::{AllocError, Global};
+use text_lines::{Words, is_name, reasons as reasons_of};
 
 /// The settings at the head of a script.
 #[derive(Clone, Copy, PartialEq, Eq)]

@@ -42,7 +42,7 @@ pub struct Row {
 pub enum Kind {
     /// A task of one worker; nice is from -1,024 to 1,024, and less comes earlier.
     Pinned { home: u32, nice: i32 },
-    /// A task that is dealt to some worker before each round.
+    /// A task that any worker may draw from the shared box; nice is as above.
     Shared { nice: i32 },
     /// A tasklet of one worker.
     Tasklet { home: u32, class: Class },

@@ -32,6 +32,14 @@ const ROWS: &str = "taskscript 1\nworkers 1\ndepth 200\nstart 4294967290\nstep 4
                     task a home 0 nice 0 rows 2 init\nrow a 0 after 10 next 1\n\
                     row a 1 kill a next 1\n";
 
+/// Nine lines, with which a script of 65,533 events has all the bytes that it may have.
+const LONG_FRONT: &str = "taskscript 1\nworkers 16\ndepth 1000\nstart 4294967290\nstep 1048576\n\
+                          rounds 100000\ntask aaaaaaaaaaaaaaa home 0 nice -1024 rows 2 init\n\
+                          row aaaaaaaaaaaaaaa 0 next 0\nrow aaaaaaaaaaaaaaa 1 next 0\n";
+
+/// An event of 64 bytes.
+const EVENT: &str = "event 0 wake aaaaaaaaaaaaaaa init,timer,io,signal,msg,res,other\n";
+
 /// Begins and ends of texts, with what each whole text is.
 const TEXTS: [(&str, &str, Verdict); 82] = [
     // Scripts.
@@ -232,6 +240,16 @@ fn many_letters(alloc: Global, count: usize) -> Result<Vec<u8>, AllocError> {
     Ok(text)
 }
 
+/// A script of one task and so many events.
+fn many_events(alloc: Global, count: u32) -> Result<String, AllocError> {
+    let mut text = String::from_str(alloc, LONG_FRONT)?;
+    for _ in 0..count {
+        text.push_str(EVENT)?;
+    }
+    text.push_str("end\n")?;
+    Ok(text)
+}
+
 /// Whether the text is a script with so many tasks and events, which is written as this text.
 fn reads_back(
     alloc: Global,
@@ -276,6 +294,14 @@ fn reads_and_writes_scripts_and_names_first_faults(rt: HostRuntime) -> Result<()
     assert!(rt; has_fault(rt.alloc(), tasks.as_bytes(), 4103, 8));
     let letters = many_letters(rt.alloc(), 5_000_000)?;
     assert!(rt; has_fault(rt.alloc(), letters.as_slice(), 7, 8));
+    Ok(())
+}
+
+#[test]
+fn reads_a_script_of_all_its_bytes(rt: HostRuntime) -> Result<(), Fail> {
+    let text = many_events(rt.alloc(), 65_533)?;
+    assert_eq!(rt; text.len(), 4_194_304);
+    assert!(rt; reads_back(rt.alloc(), text.as_bytes(), 1, 65_533)?);
     Ok(())
 }
 

@@ -7,7 +7,6 @@ ghost use Rattle.step_tables.specs.Shapes.{setting_name, sets};
 
 use crate::shapes::{Setting, setting_name};
 use crate::tables::{Action, Event, Expiry, Kind, Row, Script, TaskDef};
-use crate::words::reason_name;
 use itoa::Buffer;
 use sched_base::{Class, Reasons, TaskId};
 use std::alloc::AllocError;
@@ -96,38 +95,12 @@ fn put_expiry(out: &mut Vec<u8>, expiry: Expiry) -> Result<(), AllocError>
     }
 }
 
-/// Appends a name, behind a comma if it is not the first.
-fn put_name(out: &mut Vec<u8>, name: &[u8], is_first: bool) -> Result<(), AllocError>
-    ensures { OnOk result (out.new.items ≡ out.old.items ++ (if is_first then name.now else 44 ∷ name.now)) }
-{
-    if !is_first {
-        put(out, b",")?;
-    }
-    put(out, name)
-}
-
-/// Appends the names of the reasons whose bits these are.
-fn put_list(out: &mut Vec<u8>, bits: u8) -> Result<(), AllocError>
-    ensures { OnOk result (out.new.items ≡ out.old.items ++ reasons_text bits) }
-{
-    let mut rest = bits;
-    let mut is_first = true;
-    for bit in 0..7 {
-        if rest % 2 == 1 {
-            put_name(out, reason_name(bit), is_first)?;
-            is_first = false;
-        }
-        rest /= 2;
-    }
-    Ok(())
-}
-
 /// Appends a space and a reason list.
 fn put_reasons(out: &mut Vec<u8>, reasons: Reasons) -> Result<(), AllocError>
     ensures { OnOk result (out.new.items ≡ out.old.items ++ 32 ∷ reasons_text reasons) }
 {
     put(out, b" ")?;
-    put_list(out, reasons.bits())
+    text_lines::put_reasons(out, reasons)
 }
 
 /// The name of a task, or no byte where there is no such task.

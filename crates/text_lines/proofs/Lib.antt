@@ -1,5 +1,6 @@
 pub mod Steps
 pub mod ListViews
+pub mod Firsts
 pub mod Cuts
 pub mod Numbers
 pub mod NumbersAgain

@@ -4,6 +4,8 @@ ghost use Rattle.std.specs.Prelude.{◌≡◌, ◌∷◌, ◌<◌, ◌==◌, len
 ghost use Rattle.text_lines.specs.Steps.{is_empty};
 ghost use Rattle.text_lines.specs.Pieces.{pieces, pieces_left};
 
+use memchr::memchr;
+
 /// The words of a line that are not yet read, by their bytes; none where no word is left.
 #[derive(Clone, Copy)]
 pub struct Words<'a> {
@@ -11,6 +13,7 @@ pub struct Words<'a> {
 }
 
 /// The piece in front of the first byte `at`, and what stands behind that byte, if there is one.
+#[inline(always)]
 pub fn next_piece(at: u8, bytes: &[u8]) -> (&[u8], Option<&[u8]>)
     ensures parted { pieces at bytes.now ≡ result.0.now ∷ pieces_left at result.1 }
     ensures shorter { IfSome result.1 (λ r. length r.now < length bytes.now) }
@@ -21,11 +24,31 @@ pub fn next_piece(at: u8, bytes: &[u8]) -> (&[u8], Option<&[u8]>)
     }
 }
 
-/// The place of the first byte `at`.
+/// The place of the first byte `at`. Words are short, so each byte is looked at in turn.
+#[inline(always)]
 fn place_of(at: u8, bytes: &[u8]) -> Option<usize>
     ensures { result ≡ position (λ b. b == at) bytes.now }
 {
     bytes.iter().position(|byte| *byte == at)
+}
+
+/// The first line, and what stands behind its line feed, if there is one.
+pub fn next_line(bytes: &[u8]) -> (&[u8], Option<&[u8]>)
+    ensures parted { pieces 10 bytes.now ≡ result.0.now ∷ pieces_left 10 result.1 }
+    ensures shorter { IfSome result.1 (λ r. length r.now < length bytes.now) }
+{
+    match place_of_feed(bytes) {
+        Some(place) => (&bytes[..place], Some(&bytes[place + 1..])),
+        None => (bytes, None),
+    }
+}
+
+/// The place of the first line feed.
+#[tactic(auto, using(crate::proofs::Firsts::found_position))]
+fn place_of_feed(bytes: &[u8]) -> Option<usize>
+    ensures { result ≡ position (λ b. b == 10) bytes.now }
+{
+    memchr(b'\n', bytes)
 }
 
 impl<'a> Words<'a> {

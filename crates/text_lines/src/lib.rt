@@ -12,7 +12,7 @@ mod slots;
 #[cfg(test)]
 mod tests;
 
-pub use cursor::{Words, next_piece};
+pub use cursor::{Words, next_line, next_piece};
 pub use limits::{is_line, line_over};
 pub use naming::{is_name, place_in};
 pub use numerals::{hex, number, signed};

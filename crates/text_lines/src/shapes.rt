@@ -104,6 +104,7 @@ pub fn front<'a>(slots: &[Slot], words: Words<'a>) -> Option<(Values<'a>, Words<
 }
 
 /// Appends the word of a slot, of which the value stands first.
+#[inline(always)]
 fn put_in(out: &mut Vec<u8>, slot: &Slot, values: &[Value<'_>]) -> Result<(), AllocError>
     ensures kept { Kept out.old.items out.new.items }
     ensures written { OnOk result (out.new.items ≡ out.old.items ++ spelled_in (slot_of slot.now) (values_of values.now)) }
@@ -121,6 +122,7 @@ fn put_in(out: &mut Vec<u8>, slot: &Slot, values: &[Value<'_>]) -> Result<(), Al
 }
 
 /// The word at a place, or no byte where there is none.
+#[inline(always)]
 #[tactic(auto, using(crate::proofs::ListViews::index_there, crate::proofs::ListViews::index_missing))]
 fn choice_at(words: &'static [&'static [u8]], place: usize) -> &'static [u8]
     ensures { result.now ≡ slice_index_or (map (λ w. w.now) words.now) place [] }
@@ -132,6 +134,7 @@ fn choice_at(words: &'static [&'static [u8]], place: usize) -> &'static [u8]
 }
 
 /// The values of the slots behind a slot.
+#[inline(always)]
 fn values_behind<'s, 'a>(slot: &Slot, values: &'s [Value<'a>]) -> &'s [Value<'a>]
     ensures { values_of result.now ≡ behind (slot_of slot.now) (values_of values.now) }
 {
@@ -145,6 +148,7 @@ fn values_behind<'s, 'a>(slot: &Slot, values: &'s [Value<'a>]) -> &'s [Value<'a>
 }
 
 /// Appends the words of a shape, each behind a space.
+#[inline(always)]
 #[tactic(auto, unfolding(crate::specs::Shapes::words))]
 pub fn put_slots(out: &mut Vec<u8>, slots: &[Slot], values: &[Value<'_>]) -> Result<(), AllocError>
     ensures kept { Kept out.old.items out.new.items }
@@ -160,6 +164,7 @@ pub fn put_slots(out: &mut Vec<u8>, slots: &[Slot], values: &[Value<'_>]) -> Res
 }
 
 /// Appends the words of a row of a table, each behind a space.
+#[inline(always)]
 pub fn put_row(out: &mut Vec<u8>, row: &Row, values: &[Value<'_>]) -> Result<(), AllocError>
     ensures kept { Kept out.old.items out.new.items }
     ensures written { OnOk result (out.new.items ≡ out.old.items ++ spaced (row_words (row_of row.now) (values_of values.now))) }

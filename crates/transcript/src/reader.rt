@@ -10,7 +10,7 @@ use crate::phrases::said;
 use crate::shape::{Progress, Said};
 use crate::transcripts::Transcript;
 use std::alloc::{AllocError, Global};
-use text_lines::{is_line, line_over, next_piece};
+use text_lines::{is_line, line_over, next_line};
 
 /// The lines of a text of at most `most` bytes.
 pub(crate) fn read_within(alloc: Global, most: usize, bytes: &[u8]) -> Result<Transcript, TextError>
@@ -22,7 +22,7 @@ pub(crate) fn read_within(alloc: Global, most: usize, bytes: &[u8]) -> Result<Tr
     let mut number: u32 = 1;
     let mut rest = bytes;
     loop {
-        let (text, behind) = next_piece(b'\n', rest);
+        let (text, behind) = next_line(rest);
         let Some(next) = behind else {
             return progress.close(over, number, text);
         };

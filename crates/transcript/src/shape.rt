@@ -70,6 +70,7 @@ static GROUP: [Slot; 1] = [Slot::Mask];
 
 impl CallName {
     /// The name of the call, and the slots behind it.
+    #[inline(always)]
     pub fn row(self) -> Row
         ensures same { row_of result ≡ call_row self }
         ensures few { value_count (slots_of result.slots.now) ≤ 4 }
@@ -128,6 +129,7 @@ impl CallName {
 
 impl SeenName {
     /// The word for what was seen, and the slots behind it.
+    #[inline(always)]
     pub fn row(self) -> Row
         ensures same { row_of result ≡ seen_row self }
         ensures few { value_count (slots_of result.slots.now) ≤ 4 }
@@ -155,6 +157,7 @@ impl SeenName {
 
 impl LineName {
     /// The first word of the line, and the slots behind it.
+    #[inline(always)]
     pub fn row(self) -> Row
         ensures same { row_of result ≡ line_row self }
         ensures few { value_count (slots_of result.slots.now) ≤ 4 }

@@ -118,6 +118,20 @@ fn what_is_read_is_written_again(rt: HostRuntime) -> Result<(), Fail> {
 }
 
 #[test]
+fn long_texts_are_read(rt: HostRuntime) -> Result<(), Fail> {
+    let mut text = Vec::from_slice(rt.alloc(), b"taskrun 1\nround 0 tick 0\n")?;
+    for _ in 0..262_144u32 {
+        text.extend_from_slice(b"c0 kill 0 gone\n")?;
+    }
+    text.extend_from_slice(b"end rest 0\n")?;
+    match Transcript::read(rt.alloc(), &text) {
+        Ok(transcript) => assert_eq!(rt; transcript.as_slice().len(), 262_146),
+        Err(_) => assert!(rt; false),
+    }
+    Ok(())
+}
+
+#[test]
 fn the_first_bad_line_is_named(rt: HostRuntime) -> Result<(), Fail> {
     let cases: [(&[u8], u32, u8); 20] = [
         (b"taskrun 2\n", 1, 1),

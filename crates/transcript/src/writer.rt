@@ -124,6 +124,7 @@ fn put_call(out: &mut Vec<u8>, call: &Call) -> Result<(), AllocError>
 }
 
 /// Appends a call by its name and its values.
+#[inline(always)]
 fn put_named(out: &mut Vec<u8>, name: CallName, values: &[Value<'_>]) -> Result<(), AllocError>
     ensures kept { Kept out.old.items out.new.items }
     ensures written { OnOk result (out.new.items ≡ out.old.items ++ spaced (row_words (call_row name) (values_of values.now))) }
