@@ -1,8 +1,9 @@
 //! The forest: ordered lists of entries in one arena.
 
-ghost use Rattle.std.specs.Prelude.{◌≡◌, ℕ, ◌+◌, ◌^◌, ◌<◌, ◌≤◌, length, slice_index, replicate, IfNone, IfOk, IfSome};
+ghost use Rattle.std.specs.Prelude.{◌≡◌, ◌≢◌, ℕ, ◌+◌, ◌^◌, ◌<◌, ◌≤◌, length, slice_index, replicate, IfNone, IfOk, IfSome};
 ghost use Rattle.sched_base.specs.KeyedList.{blank, root_at, inserted_into, deleted_from, StandsIn, IsPlaced, IsFree, key_of_entry};
-ghost use Rattle.eb_arena.specs.Parts.{unused};
+ghost use Rattle.eb_arena.specs.Parts.{unused, element_at};
+ghost use Rattle.eb_arena.specs.declared.links.Place.TheVariants.{Nowhere};
 ghost use Rattle.eb_arena.specs.Shape.{HasShape, list_of};
 ghost use Rattle.eb_arena.specs.declared.links.Target.TheVariants as targets;
 ghost use Rattle.eb_dups.specs.Cost.{ChangesFew};
@@ -60,6 +61,8 @@ impl Forest {
         ensures entries { (seen_of self.now).entries ≡ length result.now.elements }
         ensures lists { (root : ℕ) → root < length result.now.links → (root_at root (seen_of self.now)).items ≡ list_of result.now root }
         ensures placed { (entry : ℕ) → IsPlaced entry (seen_of self.now) → IsIn result.now entry }
+        ensures exists { (root entry : ℕ) → StandsIn root entry (seen_of self.now) → entry < length result.now.elements }
+        ensures hangs { (root entry : ℕ) → StandsIn root entry (seen_of self.now) → (element_at result.now entry).leaf_p ≢ Nowhere }
     {
         &self.arena
     }

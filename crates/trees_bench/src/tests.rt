@@ -5,9 +5,14 @@ ghost use Rattle.sched_base.specs.KeyedList.{root_at};
 ghost use Rattle.run_queue.specs.Runners.{Fits as RunsFit};
 ghost use Rattle.wait_queue.specs.Timers.{Fits as TimersFit, insertions_of};
 
+use crate::work::{Draws, fill};
 use eb32_core::Forest;
+use eb32_walk::{lookup_le, next_dup, next_unique, prev};
 use run_queue::RunQueue;
-use sched_base::{KeyedLists, TaskId};
+use sched_base::{KeyedLists, Steps, TaskId};
+use std::alloc::{AllocError, Global};
+use std::marker::Brand;
+use std::sync::ledger::{Blank, Ledger};
 use std::test::Fail;
 use wait_queue::WaitQueue;
 
@@ -78,5 +83,51 @@ fn tasks_are_picked_from_a_forest(rt: HostRuntime) -> Result<(), Fail> {
     let mut forest = Forest::new(rt.alloc(), 2, 8)?;
     let mut queue = RunQueue::new(1, 200);
     assert_eq!(rt; runs(&mut forest, &mut queue), [Some(3), Some(1), None]);
+    Ok(())
+}
+
+/// What stands before an entry, behind it under the same key, and behind it under another key, where
+/// the entry stands in a root.
+fn beside(forest: &Forest, entry: u32) -> Option<[Option<u32>; 3]> {
+    let Some(_root) = forest.is_in(entry) else {
+        return None;
+    };
+    let arena = forest.arena();
+    Some([
+        prev(arena, entry),
+        next_dup(arena, entry),
+        next_unique(arena, entry),
+    ])
+}
+
+/// The link of the first root, and its last entry of at most this key, where there is a root.
+fn below(forest: &Forest, key: u32) -> Option<(u32, Option<u32>)> {
+    let arena = forest.arena();
+    if arena.roots() == 0 {
+        return None;
+    }
+    Some((arena.root(0).number(), lookup_le(arena, 0, key)))
+}
+
+/// A forest of one root with four equal keys.
+fn four_equal<L: Ledger>(alloc: Global, blank: Blank) -> Result<Forest, AllocError>
+    requires name { blank.name ≡ L.name }
+    requires parts { blank.parts ≡ L.parts }
+    requires some { 0 < L.parts }
+{
+    let mut steps = Steps::<L>::new(blank);
+    let mut forest = Forest::new(alloc, 1, 4)?;
+    fill(&mut forest, 0, &mut Draws::new(), &mut steps);
+    Ok(forest)
+}
+
+#[test]
+fn walks_go_over_the_arena_of_a_forest(rt: HostRuntime) -> Result<(), Fail> {
+    let forest = four_equal::<Brand>(rt.alloc(), Blank::new(1))?;
+    assert_eq!(rt; below(&forest, 0), Some((5, Some(3))));
+    assert_eq!(rt; beside(&forest, 0), Some([None, Some(1), None]));
+    assert_eq!(rt; beside(&forest, 2), Some([Some(1), Some(3), None]));
+    assert_eq!(rt; beside(&forest, 3), Some([Some(2), None, None]));
+    assert_eq!(rt; beside(&forest, 4), None);
     Ok(())
 }

@@ -1,5 +1,7 @@
-use Rattle.std.proofs.Common.{◌≡◌, ℕ, ◌<◌, length, sym, ap, ◌∙◌, subst}
-use Rattle.sched_base.specs.KeyedList.{root_at, IsPlaced}
+use Rattle.std.proofs.Common.{◌≡◌, ◌≢◌, ℕ, ◌<◌, length, sym, ap, ◌∙◌, subst}
+use Rattle.sched_base.specs.KeyedList.{root_at, StandsIn, IsPlaced}
+use Rattle.eb_arena.specs.declared.links.Place.TheVariants.{Nowhere}
+use Rattle.eb_arena.specs.Parts.{element_at}
 use Rattle.eb_arena.specs.Shape.{list_of}
 use Rattle.eb32_walk.specs.Ends.{IsIn}
 use Rattle.eb32_core.specs.Forest.{Grove, seen_of}
@@ -25,3 +27,13 @@ pub returns-clause-placed : goal.returns-clause-placed
 returns-clause-placed c =
     let f : Grove = record { parts = c.self.inside.arena; made = c.self.inside.made.items } in
     subst (λ x. (entry : ℕ) → IsPlaced entry (seen_of x) → IsIn f.parts entry) c.self.view_is (λ entry h. placed_in f entry (tended f c.self.invariant) h)
+
+pub returns-clause-exists : goal.returns-clause-exists
+returns-clause-exists c =
+    let f : Grove = record { parts = c.self.inside.arena; made = c.self.inside.made.items } in
+    subst (λ x. (root entry : ℕ) → StandsIn root entry (seen_of x) → entry < length f.parts.elements) c.self.view_is (λ root entry h. (placed_in f entry (tended f c.self.invariant) (root, h)).0)
+
+pub returns-clause-hangs : goal.returns-clause-hangs
+returns-clause-hangs c =
+    let f : Grove = record { parts = c.self.inside.arena; made = c.self.inside.made.items } in
+    subst (λ x. (root entry : ℕ) → StandsIn root entry (seen_of x) → (element_at f.parts entry).leaf_p ≢ Nowhere) c.self.view_is (λ root entry h. (placed_in f entry (tended f c.self.invariant) (root, h)).1)
