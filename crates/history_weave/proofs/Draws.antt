@@ -107,7 +107,7 @@ only-at w k j x retires n f m ne a =
     absurd (elim a.1 [ inl held ↦ held_in_draw k j ne held | inr q ↦ cc ])
 
 -- nobody but its drawer leads a drawn task on
-drawn_only : (w : ℕ) (k j : CallerId) (v : Event) (t : TaskState) → k.0 ≢ j.0 → Allows w k v t → t.place ≡ places.Drawn j → StaysDrawn j t (next k v t) × (draw_of v ≡ 0)
+pub drawn_only : (w : ℕ) (k j : CallerId) (v : Event) (t : TaskState) → k.0 ≢ j.0 → Allows w k v t → t.place ≡ places.Drawn j → StaysDrawn j t (next k v t) × (draw_of v ≡ 0)
 drawn_only w k j apart t ne a h = ((h, refl), refl)
 drawn_only w k j (sees x c) t ne a h = (
   at_place (λ s. Allows w k (sees x c) s → StaysDrawn j s (altered k c s)) t (places.Drawn j) h (λ g. only-at w k j x c t.pending t.killed t.takes ne g) a,
@@ -139,7 +139,7 @@ drawer_next w k misses t later a h = inr (refl, refl, λ g. g)
 drawer_next w k draws t later a h = two_places t (places.Boxed w) (places.Drawn k) a h (λ e. cc)
 
 -- a draw less in front changes no count of draws
-draws-more : (i j : ℕ) (e : Entry) (h : List Entry) → draw_of (event_at i e) ≡ 0 → draws_in i (calls_of j h) ≡ 0 → draws_in i (calls_of j (e ∷ h)) ≡ 0
+pub draws-more : (i j : ℕ) (e : Entry) (h : List Entry) → draw_of (event_at i e) ≡ 0 → draws_in i (calls_of j h) ≡ 0 → draws_in i (calls_of j (e ∷ h)) ≡ 0
 draws-more i j e h none rest =
     elim (whose j e h) [ inl mine ↦ rw mine.1 (omega arith) | inr others ↦ rw others.1 rest ]
 

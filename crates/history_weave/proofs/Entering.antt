@@ -1,5 +1,5 @@
 -- The index, when an entry is entered or leaves.
-use Rattle.std.proofs.Common.{◌≡◌, ℕ, suc, ◌+◌, ◌-◌, ◌*◌, ◌/◌, ◌^◌, ◌<◌, ◌≤◌, Bool, List, [], ◌∷◌, length, get_or, set, take, drop, refl, sym, ap, subst, ◌∙◌, inl, inr, arith}
+use Rattle.std.proofs.Common.{◌≡◌, ◌≢◌, ℕ, suc, ◌+◌, ◌-◌, ◌*◌, ◌/◌, ◌^◌, ◌<◌, ◌≤◌, Bool, List, [], ◌∷◌, length, get_or, set, take, drop, refl, sym, ap, subst, ◌∙◌, inl, inr, arith}
 use Rattle.std.proofs.lemmas.Bool.{cases_eq, cases_lt, cases_order}
 use Rattle.std.proofs.lemmas.List.{get_or-set_same, get_or-set_other, get_or_read, length-set, length-drop, drop_all}
 use Rattle.std.specs.Vec.{with_item}
@@ -11,9 +11,9 @@ use Rattle.history_weave.specs.declared.index.Index.{Index}
 use Rattle.history_weave.specs.declared.kinds.Kind.{Kind}
 use Rattle.history_weave.specs.declared.kinds.Kind.TheVariants as kinds
 use Rattle.history_weave.specs.Rule.{draw_of, draws_in}
-use Rattle.history_weave.specs.Kinds.{kind, looks_at, gathers_at, KindNamed}
+use Rattle.history_weave.specs.Kinds.{kind, look_mark, kind_mark, looks_at, gathers_at, KindNamed}
 use Rattle.history_weave.specs.Places.{entry_at, PlaceTable, place_at, none, no_log, log_at, left_of, entry_count, first_place, next_place}
-use Rattle.history_weave.specs.Indexed.{groups, tasks_of, HasShape, IsClear, IsLaidOut, draws_left, IsIndexed, AreNamed}
+use Rattle.history_weave.specs.Indexed.{groups, tasks_of, HasShape, IsClear, IsLaidOut, draws_left, AreMarked, IsIndexed, AreNamed}
 use Rattle.history_weave.proofs.NextPlaces.{drop_next, next_place-end}
 use Rattle.history_weave.proofs.Chains.{Stands, Put, Links_apart, enter-hit, enter-miss, leave-hit, leave-miss, links_kept}
 use Rattle.history_weave.proofs.KindEvents.{look-passes, NoLook, no_look-passes, get-passes, NoGather, no_get-passes, NoDraw, no_draw, draw-here, draw-others}
@@ -141,9 +141,36 @@ none_more n = omega arith
 shape-put : (callers : ℕ) (x : Index) (k p : ℕ) → HasShape callers x → length (set x.next.items k p) ≡ callers
 shape-put callers x k p shape = length-set x.next.items k p ∙ shape.next_len
 
+-- the marks when a look has another place and another mark
+marked-put : (logs : List Logged) (looks marks u w : PlaceTable) (t k p n : ℕ) → AreMarked logs looks marks → Replaced looks u t k p → Replaced marks w t k n → marks.rows ≡ looks.rows → marks.columns ≡ looks.columns → ((e : Entry) → p ≢ none → entry_at logs k p e ≡ e → n ≡ kind_mark (kind e.call e.reply)) → AreMarked logs u w
+marked-put logs looks marks u w t k p n marked put mark rows columns told i j e li lj ne stands =
+    let row : i < looks.rows = rw put.rows at li in
+    let column : j < looks.columns = rw put.columns at lj in
+    let away = λ (other : i ≡ t → j ≡ k → ⊥).
+    let place : place_at u i j ≡ place_at looks i j = put.others i j row column other in
+    let same : place_at w i j ≡ place_at marks i j = mark.others i j (rw rows row) (rw columns column) other in
+    same ∙ marked i j e row column (λ q. ne (place ∙ q)) (rw place at stands) in
+    elim (cases_eq i t) [
+      | inl si ↦ elim (cases_eq j k) [
+        | inl sj ↦
+            let place : place_at u i j ≡ p = rw (si, sj) put.same in
+            let here : place_at w i j ≡ n = rw (si, sj) mark.same in
+            let there : entry_at logs k p e ≡ e = rw (place, sj) at stands in
+            here ∙ told e (λ q. ne (place ∙ q)) there
+        | inr nj ↦ away (λ a b. nj b)
+      ]
+      | inr ni ↦ away (λ a b. ni a)
+    ]
+
+-- the mark of the entry that is entered
+entered-mark : (logs : List Logged) (k p t : ℕ) (saw : Seen) (q : Bool) (e : Entry) → Stands (length logs) logs k p e → kind e.call e.reply ≡ kinds.Look t saw q → (d : Entry) → p ≢ none → entry_at logs k p d ≡ d → look_mark saw q ≡ kind_mark (kind d.call d.reply)
+entered-mark logs k p t saw q e s h d ne stands =
+    let same : d ≡ e = get_or_read (log_at logs k) p d s.within (sym stands) e ∙ s.entry in
+    sym (ap (λ (f : Entry). kind_mark (kind f.call f.reply)) same ∙ ap kind_mark h)
+
 -- a look is entered
-pub entered-look : (logs : List Logged) (x : Index) (k p t : ℕ) (saw : Seen) (q : Bool) (e : Entry) (u : PlaceTable) (v : ℕ) → IsIndexed logs x → Stands (length logs) logs k p e → get_or x.next.items k 0 ≡ suc p → kind e.call e.reply ≡ kinds.Look t saw q → t < tasks_of x → v ≡ place_at x.looks t k → Replaced x.looks u t k p → IsIndexed logs (record x { looks = u; links = with_item x.links (get_or x.starts.items k 0 + p) v; next = with_item x.next k p })
-entered-look logs x k p t saw q e u v ix s m h lt read put =
+pub entered-look : (logs : List Logged) (x : Index) (k p t : ℕ) (saw : Seen) (q : Bool) (e : Entry) (u w : PlaceTable) (v : ℕ) → IsIndexed logs x → Stands (length logs) logs k p e → get_or x.next.items k 0 ≡ suc p → kind e.call e.reply ≡ kinds.Look t saw q → t < tasks_of x → v ≡ place_at x.looks t k → Replaced x.looks u t k p → Replaced x.marks w t k (look_mark saw q) → IsIndexed logs (record x { looks = u; marks = w; links = with_item x.links (get_or x.starts.items k 0 + p) v; next = with_item x.next k p })
+entered-look logs x k p t saw q e u w v ix s m h lt read put mark =
     let apart = links_apart logs x k p ix.layout s.caller s.within in
     let cell = get_or x.starts.items k 0 + p in
     let tasks = tasks_of x in
@@ -152,14 +179,17 @@ entered-look logs x k p t saw q e u v ix s m h lt read put =
       shape = record {
         look_rows = put.rows ∙ ix.shape.look_rows;
         look_columns = put.columns ∙ ix.shape.look_columns;
+        mark_rows = mark.rows ∙ ix.shape.mark_rows;
+        mark_columns = mark.columns ∙ ix.shape.mark_columns;
         get_rows = ix.shape.get_rows;
         get_columns = ix.shape.get_columns;
         starts_len = ix.shape.starts_len;
         next_len = shape-put n x k p ix.shape;
         draws_len = ix.shape.draws_len;
       };
-      layout = layout-next logs x (record x { looks = u; links = with_item x.links cell v; next = with_item x.next k p }) k p ix.layout ix.shape s.caller (let w = s.within in omega arith) refl (length-set x.links.items cell v) refl;
+      layout = layout-next logs x (record x { looks = u; marks = w; links = with_item x.links cell v; next = with_item x.next k p }) k p ix.layout ix.shape s.caller (let few = s.within in omega arith) refl (length-set x.links.items cell v) refl;
       looks = rw read (enter-hit looks_at tasks n logs x.next.items x.starts.items x.looks u x.links.items k p t e ix.looks s ix.shape.next_len m lt (look-passes t saw q e h) (put-in tasks n x.looks u t k p ix.shape.look_rows ix.shape.look_columns put) apart (link-lt logs x k p ix.layout s.caller s.within));
+      marked = marked-put logs x.looks x.marks u w t k p (look_mark saw q) ix.marked put mark (ix.shape.mark_rows ∙ sym ix.shape.look_rows) (ix.shape.mark_columns ∙ sym ix.shape.look_columns) (entered-mark logs k p t saw q e s h);
       gets = enter-miss gathers_at (groups tasks) n logs x.next.items x.starts.items x.gets x.links.items (set x.links.items cell v) k p e ix.gets s ix.shape.next_len m (no_get-passes (kinds.Look t saw q) e h tt) (links_kept n logs x.starts.items x.links.items k p v apart);
       draws = λ i li. ix.draws i li ∙ sym (draws_left-enter logs x.next.items k p i e s ix.shape.next_len m ∙ ap (λ d. d + draws_left logs x.next.items i) (no_draw (kinds.Look t saw q) e h tt i) ∙ none_more (draws_left logs x.next.items i));
     }
@@ -175,6 +205,8 @@ entered-get logs x k p g e u v ix s m h lt read put =
       shape = record {
         look_rows = ix.shape.look_rows;
         look_columns = ix.shape.look_columns;
+        mark_rows = ix.shape.mark_rows;
+        mark_columns = ix.shape.mark_columns;
         get_rows = put.rows ∙ ix.shape.get_rows;
         get_columns = put.columns ∙ ix.shape.get_columns;
         starts_len = ix.shape.starts_len;
@@ -183,6 +215,7 @@ entered-get logs x k p g e u v ix s m h lt read put =
       };
       layout = layout-next logs x (record x { gets = u; links = with_item x.links cell v; next = with_item x.next k p }) k p ix.layout ix.shape s.caller (let w = s.within in omega arith) refl (length-set x.links.items cell v) refl;
       looks = enter-miss looks_at tasks n logs x.next.items x.starts.items x.looks x.links.items (set x.links.items cell v) k p e ix.looks s ix.shape.next_len m (no_look-passes (kinds.Get g) e h tt) (links_kept n logs x.starts.items x.links.items k p v apart);
+      marked = ix.marked;
       gets = rw read (enter-hit gathers_at (groups tasks) n logs x.next.items x.starts.items x.gets u x.links.items k p g e ix.gets s ix.shape.next_len m lt (get-passes g e h) (put-in (groups tasks) n x.gets u g k p ix.shape.get_rows ix.shape.get_columns put) apart (link-lt logs x k p ix.layout s.caller s.within));
       draws = λ i li. ix.draws i li ∙ sym (draws_left-enter logs x.next.items k p i e s ix.shape.next_len m ∙ ap (λ d. d + draws_left logs x.next.items i) (no_draw (kinds.Get g) e h tt i) ∙ none_more (draws_left logs x.next.items i));
     }
@@ -200,6 +233,8 @@ entered-other logs x k p e κ ix s m h no_look no_gather none_drawn =
       shape = record {
         look_rows = ix.shape.look_rows;
         look_columns = ix.shape.look_columns;
+        mark_rows = ix.shape.mark_rows;
+        mark_columns = ix.shape.mark_columns;
         get_rows = ix.shape.get_rows;
         get_columns = ix.shape.get_columns;
         starts_len = ix.shape.starts_len;
@@ -208,6 +243,7 @@ entered-other logs x k p e κ ix s m h no_look no_gather none_drawn =
       };
       layout = layout-next logs x (record x { next = with_item x.next k p }) k p ix.layout ix.shape s.caller (let w = s.within in omega arith) refl refl refl;
       looks = enter-miss looks_at tasks n logs x.next.items x.starts.items x.looks x.links.items x.links.items k p e ix.looks s ix.shape.next_len m (no_look-passes κ e h no_look) (all_kept n logs x.starts.items x.links.items k p);
+      marked = ix.marked;
       gets = enter-miss gathers_at (groups tasks) n logs x.next.items x.starts.items x.gets x.links.items x.links.items k p e ix.gets s ix.shape.next_len m (no_get-passes κ e h no_gather) (all_kept n logs x.starts.items x.links.items k p);
       draws = λ i li. ix.draws i li ∙ sym (draws_left-enter logs x.next.items k p i e s ix.shape.next_len m ∙ ap (λ d. d + draws_left logs x.next.items i) (no_draw κ e h none_drawn i) ∙ none_more (draws_left logs x.next.items i));
     }
@@ -233,6 +269,8 @@ entered-draw logs x k p t n e ix s m h lt read =
       shape = record {
         look_rows = ix.shape.look_rows;
         look_columns = ix.shape.look_columns;
+        mark_rows = ix.shape.mark_rows;
+        mark_columns = ix.shape.mark_columns;
         get_rows = ix.shape.get_rows;
         get_columns = ix.shape.get_columns;
         starts_len = ix.shape.starts_len;
@@ -241,6 +279,7 @@ entered-draw logs x k p t n e ix s m h lt read =
       };
       layout = layout-next logs x (record x { draws = with_item x.draws t (n + 1); next = with_item x.next k p }) k p ix.layout ix.shape s.caller (let w = s.within in omega arith) refl refl refl;
       looks = enter-miss looks_at tasks callers logs x.next.items x.starts.items x.looks x.links.items x.links.items k p e ix.looks s ix.shape.next_len m (no_look-passes (kinds.Draw t) e h tt) (all_kept callers logs x.starts.items x.links.items k p);
+      marked = ix.marked;
       gets = enter-miss gathers_at (groups tasks) callers logs x.next.items x.starts.items x.gets x.links.items x.links.items k p e ix.gets s ix.shape.next_len m (no_get-passes (kinds.Draw t) e h tt) (all_kept callers logs x.starts.items x.links.items k p);
       draws = λ i li. elim (cases_eq i t) [
         | inl same ↦
@@ -255,8 +294,8 @@ entered-draw logs x k p t n e ix s m h lt read =
     }
 
 -- a look leaves
-pub left-look : (logs : List Logged) (x : Index) (k p t : ℕ) (saw : Seen) (q : Bool) (e : Entry) (u : PlaceTable) (v : ℕ) → IsIndexed logs x → Stands (length logs) logs k p e → get_or x.next.items k 0 ≡ p → kind e.call e.reply ≡ kinds.Look t saw q → t < tasks_of x → v ≡ get_or x.links.items (get_or x.starts.items k 0 + p) 0 → Replaced x.looks u t k v → IsIndexed logs (record x { looks = u; next = with_item x.next k (suc p) })
-left-look logs x k p t saw q e u v ix s m h lt read put =
+pub left-look : (logs : List Logged) (x : Index) (k p t : ℕ) (saw : Seen) (q : Bool) (e : Entry) (u w : PlaceTable) (v n : ℕ) → IsIndexed logs x → Stands (length logs) logs k p e → get_or x.next.items k 0 ≡ p → kind e.call e.reply ≡ kinds.Look t saw q → t < tasks_of x → v ≡ get_or x.links.items (get_or x.starts.items k 0 + p) 0 → Replaced x.looks u t k v → Replaced x.marks w t k n → ((d : Entry) → v ≢ none → entry_at logs k v d ≡ d → n ≡ kind_mark (kind d.call d.reply)) → IsIndexed logs (record x { looks = u; marks = w; next = with_item x.next k (suc p) })
+left-look logs x k p t saw q e u w v mk ix s m h lt read put mark told =
     let tasks = tasks_of x in
     let n = length logs in
     let link : Replaced x.looks u t k (get_or x.links.items (get_or x.starts.items k 0 + p) 0) = rw read at put in
@@ -264,14 +303,17 @@ left-look logs x k p t saw q e u v ix s m h lt read put =
       shape = record {
         look_rows = put.rows ∙ ix.shape.look_rows;
         look_columns = put.columns ∙ ix.shape.look_columns;
+        mark_rows = mark.rows ∙ ix.shape.mark_rows;
+        mark_columns = mark.columns ∙ ix.shape.mark_columns;
         get_rows = ix.shape.get_rows;
         get_columns = ix.shape.get_columns;
         starts_len = ix.shape.starts_len;
         next_len = shape-put n x k (suc p) ix.shape;
         draws_len = ix.shape.draws_len;
       };
-      layout = layout-next logs x (record x { looks = u; next = with_item x.next k (suc p) }) k (suc p) ix.layout ix.shape s.caller s.within refl refl refl;
+      layout = layout-next logs x (record x { looks = u; marks = w; next = with_item x.next k (suc p) }) k (suc p) ix.layout ix.shape s.caller s.within refl refl refl;
       looks = leave-hit looks_at tasks n logs x.next.items x.starts.items x.looks u x.links.items k p t e ix.looks s ix.shape.next_len m lt (look-passes t saw q e h) (put-in tasks n x.looks u t k (get_or x.links.items (get_or x.starts.items k 0 + p) 0) ix.shape.look_rows ix.shape.look_columns link);
+      marked = marked-put logs x.looks x.marks u w t k v mk ix.marked put mark (ix.shape.mark_rows ∙ sym ix.shape.look_rows) (ix.shape.mark_columns ∙ sym ix.shape.look_columns) told;
       gets = leave-miss gathers_at (groups tasks) n logs x.next.items x.starts.items x.gets x.links.items k p e ix.gets s ix.shape.next_len m (no_get-passes (kinds.Look t saw q) e h tt);
       draws = λ i li. ix.draws i li ∙ draws_left-leave logs x.next.items k p i e s ix.shape.next_len m ∙ ap (λ d. d + draws_left logs (set x.next.items k (suc p)) i) (no_draw (kinds.Look t saw q) e h tt i) ∙ none_more (draws_left logs (set x.next.items k (suc p)) i);
     }
@@ -286,6 +328,8 @@ left-get logs x k p g e u v ix s m h lt read put =
       shape = record {
         look_rows = ix.shape.look_rows;
         look_columns = ix.shape.look_columns;
+        mark_rows = ix.shape.mark_rows;
+        mark_columns = ix.shape.mark_columns;
         get_rows = put.rows ∙ ix.shape.get_rows;
         get_columns = put.columns ∙ ix.shape.get_columns;
         starts_len = ix.shape.starts_len;
@@ -294,6 +338,7 @@ left-get logs x k p g e u v ix s m h lt read put =
       };
       layout = layout-next logs x (record x { gets = u; next = with_item x.next k (suc p) }) k (suc p) ix.layout ix.shape s.caller s.within refl refl refl;
       looks = leave-miss looks_at tasks n logs x.next.items x.starts.items x.looks x.links.items k p e ix.looks s ix.shape.next_len m (no_look-passes (kinds.Get g) e h tt);
+      marked = ix.marked;
       gets = leave-hit gathers_at (groups tasks) n logs x.next.items x.starts.items x.gets u x.links.items k p g e ix.gets s ix.shape.next_len m lt (get-passes g e h) (put-in (groups tasks) n x.gets u g k (get_or x.links.items (get_or x.starts.items k 0 + p) 0) ix.shape.get_rows ix.shape.get_columns link);
       draws = λ i li. ix.draws i li ∙ draws_left-leave logs x.next.items k p i e s ix.shape.next_len m ∙ ap (λ d. d + draws_left logs (set x.next.items k (suc p)) i) (no_draw (kinds.Get g) e h tt i) ∙ none_more (draws_left logs (set x.next.items k (suc p)) i);
     }
@@ -307,6 +352,8 @@ left-other logs x k p e κ ix s m h no_look no_gather none_drawn =
       shape = record {
         look_rows = ix.shape.look_rows;
         look_columns = ix.shape.look_columns;
+        mark_rows = ix.shape.mark_rows;
+        mark_columns = ix.shape.mark_columns;
         get_rows = ix.shape.get_rows;
         get_columns = ix.shape.get_columns;
         starts_len = ix.shape.starts_len;
@@ -315,6 +362,7 @@ left-other logs x k p e κ ix s m h no_look no_gather none_drawn =
       };
       layout = layout-next logs x (record x { next = with_item x.next k (suc p) }) k (suc p) ix.layout ix.shape s.caller s.within refl refl refl;
       looks = leave-miss looks_at tasks n logs x.next.items x.starts.items x.looks x.links.items k p e ix.looks s ix.shape.next_len m (no_look-passes κ e h no_look);
+      marked = ix.marked;
       gets = leave-miss gathers_at (groups tasks) n logs x.next.items x.starts.items x.gets x.links.items k p e ix.gets s ix.shape.next_len m (no_get-passes κ e h no_gather);
       draws = λ i li. ix.draws i li ∙ draws_left-leave logs x.next.items k p i e s ix.shape.next_len m ∙ ap (λ d. d + draws_left logs (set x.next.items k (suc p)) i) (no_draw κ e h none_drawn i) ∙ none_more (draws_left logs (set x.next.items k (suc p)) i);
     }
@@ -338,6 +386,8 @@ left-draw logs x k p t n e ix s m h lt read =
       shape = record {
         look_rows = ix.shape.look_rows;
         look_columns = ix.shape.look_columns;
+        mark_rows = ix.shape.mark_rows;
+        mark_columns = ix.shape.mark_columns;
         get_rows = ix.shape.get_rows;
         get_columns = ix.shape.get_columns;
         starts_len = ix.shape.starts_len;
@@ -346,6 +396,7 @@ left-draw logs x k p t n e ix s m h lt read =
       };
       layout = layout-next logs x (record x { draws = with_item x.draws t (n - 1); next = with_item x.next k (suc p) }) k (suc p) ix.layout ix.shape s.caller s.within refl refl refl;
       looks = leave-miss looks_at tasks callers logs x.next.items x.starts.items x.looks x.links.items k p e ix.looks s ix.shape.next_len m (no_look-passes (kinds.Draw t) e h tt);
+      marked = ix.marked;
       gets = leave-miss gathers_at (groups tasks) callers logs x.next.items x.starts.items x.gets x.links.items k p e ix.gets s ix.shape.next_len m (no_get-passes (kinds.Draw t) e h tt);
       draws = λ i li. elim (cases_eq i t) [
         | inl same ↦
@@ -405,8 +456,8 @@ link-read logs x k p start v e ix l read =
     get_or_read x.links.items (get_or x.starts.items k 0 + p) v (link-lt logs x k p ix.layout l.stands.caller l.stands.within) here 0
 
 -- where no entry is entered yet, the index tells that none is left
-pub laid_out : (logs : List Logged) (x y : Index) → entry_count logs ≤ none → entry_count logs ≤ length x.links.items → IsClear (length logs) x → y.looks ≡ x.looks → y.gets ≡ x.gets → y.draws ≡ x.draws → y.links ≡ x.links → length y.starts.items ≡ length x.starts.items → length y.next.items ≡ length x.next.items → ((j : ℕ) → j < length logs → get_or y.starts.items j 0 ≡ entry_count (take j logs)) → ((j : ℕ) → j < length logs → get_or y.next.items j 0 ≡ length (log_at logs j)) → IsIndexed logs y
-laid_out logs x y few room clear same_looks same_gets same_draws same_links starts_len next_len starts next =
+pub laid_out : (logs : List Logged) (x y : Index) → entry_count logs ≤ none → entry_count logs ≤ length x.links.items → IsClear (length logs) x → y.looks ≡ x.looks → y.marks ≡ x.marks → y.gets ≡ x.gets → y.draws ≡ x.draws → y.links ≡ x.links → length y.starts.items ≡ length x.starts.items → length y.next.items ≡ length x.next.items → ((j : ℕ) → j < length logs → get_or y.starts.items j 0 ≡ entry_count (take j logs)) → ((j : ℕ) → j < length logs → get_or y.next.items j 0 ≡ length (log_at logs j)) → IsIndexed logs y
+laid_out logs x y few room clear same_looks same_marks same_gets same_draws same_links starts_len next_len starts next =
     let end : (f : Entry → Bool) (k : ℕ) → k < length logs → next_place f (log_at logs k) (get_or y.next.items k 0) ≡ none =
     λ f k lk. next_place-end f (log_at logs k) (get_or y.next.items k 0) (let e = next k lk in omega arith) in
     let none_left : (k : ℕ) → left_of logs y.next.items k ≡ [] =
@@ -418,6 +469,8 @@ laid_out logs x y few room clear same_looks same_gets same_draws same_links star
       shape = record {
         look_rows = rw (same_looks, same_draws) clear.shape.look_rows;
         look_columns = rw same_looks clear.shape.look_columns;
+        mark_rows = rw (same_marks, same_draws) clear.shape.mark_rows;
+        mark_columns = rw same_marks clear.shape.mark_columns;
         get_rows = rw (same_gets, same_draws) clear.shape.get_rows;
         get_columns = rw same_gets clear.shape.get_columns;
         starts_len = starts_len ∙ clear.shape.starts_len;
@@ -434,6 +487,11 @@ laid_out logs x y few room clear same_looks same_gets same_draws same_links star
         firsts = λ i k li lk. (let lt : i < tasks_of x = rw same_draws at li in rw same_looks (clear.looks i k lt lk) ∙ sym (end (looks_at i) k lk));
         linked = λ i k p e li lk from lp hit. absurd (let n = next k lk in omega arith);
       };
+      marked = λ i k e li lk ne stands. (
+          let row : i < tasks_of x = rw (← clear.shape.look_rows, ← same_looks) li in
+          let column : k < length logs = rw (← clear.shape.look_columns, ← same_looks) lk in
+          absurd (ne (rw same_looks (clear.looks i k row column)))
+          );
       gets = record {
         firsts = λ g k lg lk. (let lt : g < groups (tasks_of x) = rw same_draws at lg in rw same_gets (clear.gets g k lt lk) ∙ sym (end (gathers_at g) k lk));
         linked = λ g k p e lg lk from lp hit. absurd (let n = next k lk in omega arith);

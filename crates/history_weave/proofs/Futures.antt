@@ -83,7 +83,7 @@ look_keeps_box k takes b n f m w x a = absurd (held_in_box k b a.1)
 look_keeps_box k drops b n f m w x a = absurd (let h = a.1 in cc)
 look_keeps_box k retires b n f m w x a = absurd (elim a.1 [ inl held ↦ held_in_box k b held | inr r ↦ cc ])
 
-look_keeps : (w : ℕ) (k : CallerId) (x : Seen) (c : Change) (b : ℕ) (t : TaskState) → Allows w k (sees x c) t → t.place ≡ places.Boxed b → (altered k c t).place ≡ places.Boxed b
+pub look_keeps : (w : ℕ) (k : CallerId) (x : Seen) (c : Change) (b : ℕ) (t : TaskState) → Allows w k (sees x c) t → t.place ≡ places.Boxed b → (altered k c t).place ≡ places.Boxed b
 look_keeps w k x c b t a h =
     at_place (λ s. Allows w k (sees x c) s → (altered k c s).place ≡ places.Boxed b) t (places.Boxed b) h (λ g. look_keeps_box k c b t.pending t.killed t.takes w x g) a
 

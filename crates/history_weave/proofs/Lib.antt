@@ -8,8 +8,10 @@ pub mod Lookups
 pub mod Merges
 pub mod Moves
 pub mod NextPlaces
+pub mod RuleSaid
 pub mod Seens
 pub mod Sums
 pub mod Swaps
 pub mod Tables
 pub mod Weaves
+pub mod Wordings

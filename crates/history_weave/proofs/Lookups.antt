@@ -1,5 +1,5 @@
 -- What the index tells of the next look and the next get.
-use Rattle.std.proofs.Common.{◌≡◌, ◌≢◌, ℕ, suc, ◌+◌, ◌/◌, ◌%◌, ◌<◌, ◌≤◌, inl, inr, Bool, true, false, ◌==◌, List, [], ◌∷◌, length, get_or, drop, refl, sym, ap, subst, ◌∙◌, arith, eq-eqb, eqb-true}
+use Rattle.std.proofs.Common.{◌≡◌, ◌≢◌, ℕ, zero, suc, ◌+◌, ◌/◌, ◌%◌, ◌<◌, ◌≤◌, inl, inr, Bool, true, false, ◌==◌, List, [], ◌∷◌, length, get_or, drop, refl, sym, ap, subst, ◌∙◌, arith, eq-eqb, eqb-true}
 use Rattle.std.proofs.lemmas.Bool.{cases_eq, cases_lt, cases_Bool}
 use Rattle.std.specs.Int.{bit_at}
 use Rattle.task_machine.specs.declared.task.Place.{Place}
@@ -19,12 +19,13 @@ use Rattle.history_weave.specs.declared.index.Index.{Index}
 use Rattle.history_weave.specs.declared.kinds.Kind.{Kind}
 use Rattle.history_weave.specs.declared.kinds.Kind.TheVariants as kinds
 use Rattle.history_weave.specs.Rule.{is_quiet, Lets, LetsBy, Holds, HoldsBy, SawTakes, TellsTakes, TellsTakesBy, draws_in, IsLastDraw}
-use Rattle.history_weave.specs.Kinds.{kind, is_look, looks_at, is_get, gathers_at, LooksQuietly, HoldsTask, SameTakes, SawTakesOf}
+use Rattle.history_weave.specs.Kinds.{kind, is_look, looks_at, is_get, gathers_at, seen_mark, kind_mark, LooksQuietly, HoldsTask, SameTakes, SawTakesOf}
 use Rattle.history_weave.specs.Places.{entry_at, place_at, none, log_at, left_of, sum_over}
 use Rattle.history_weave.specs.Indexed.{groups, tasks_of, IsIndexed, IsNextKind}
 use Rattle.history_weave.proofs.NextPlaces.{Passes, Found, found, not_found}
+use Rattle.history_weave.proofs.Chains.{Stands}
 use Rattle.history_weave.proofs.Entering.{draws-read}
-use Rattle.history_weave.proofs.KindEvents.{Events, Events-kind, gathers-look, draw-here}
+use Rattle.history_weave.proofs.KindEvents.{Events, Events-kind, look-passes, gathers-look, draw-here}
 use Rattle.history_weave.proofs.Sums.{entry_count-more, entry_count-whole, sum_over-raise, sum_over-zero, sum_over-term, sum_over-two, left_of-past}
 
 -- what decides nothing
@@ -169,6 +170,41 @@ lets-refuted logs x i k saw e ix li lk ne at quiet lets =
     let here : entry_at logs k (place_at x.looks i k) e ≡ e = at.entry e in
     let hit : looks_at i e ≡ true = hit-entry (looks_at i) logs k (place_at x.looks i k) e e at f.hit in
     look-refutes i e saw (Lets i saw rest) hit quiet (subst (λ (d : Entry). Lets i saw (d ∷ rest)) here (f.there lets))
+
+-- what is quiet and saw x has the mark of x
+quiet-mark : (x : Seen) (κ : Kind) → LooksQuietly x κ → kind_mark κ ≡ seen_mark x
+quiet-mark x (kinds.Look t y q) h = rw (h.0, h.1) refl
+quiet-mark x (kinds.Post t b) h = absurd h
+quiet-mark x (kinds.Get g) h = absurd h
+quiet-mark x (kinds.Draw t) h = absurd h
+quiet-mark x kinds.Apart h = absurd h
+
+-- a log whose next look has another mark lets what was seen go
+pub lets-marked : (logs : List Logged) (x : Index) (i k : ℕ) (saw : Seen) → IsIndexed logs x → i < tasks_of x → k < length logs → place_at x.marks i k ≢ seen_mark saw → Lets i saw (left_of logs x.next.items k)
+lets-marked logs x i k saw ix li lk differs =
+    elim (cases_eq (place_at x.looks i k) none) [
+      | inl no_place ↦ lets-none logs x i k saw ix li lk no_place
+      | inr ne ↦
+          let p = place_at x.looks i k in
+          let e = entry_at logs k p some_entry in
+          let within = look-within logs x i k ix li lk ne in
+          let reads : (d : Entry) → entry_at logs k p d ≡ e = λ d. any_default (log_at logs k) p d some_entry within in
+          let at : At logs k p e = record { entry = reads } in
+          let mark = ix.marked i k e (rw ix.shape.look_rows li) (rw ix.shape.look_columns lk) ne (reads e) in
+          lets-found logs x i k saw e ix li lk ne at (λ quiet. differs (mark ∙ quiet-mark saw (kind e.call e.reply) quiet))
+    ]
+  where
+    any_default : (es : List Entry) (p : ℕ) (d f : Entry) → p < length es → get_or es p d ≡ get_or es p f
+    any_default [] p d f lt = absurd (omega arith)
+    any_default (e ∷ es) zero d f lt = refl
+    any_default (e ∷ es) (suc p) d f lt = any_default es p d f (omega arith)
+
+-- the next look behind one that leaves
+pub later-within : (logs : List Logged) (x : Index) (k p t : ℕ) (saw : Seen) (q : Bool) (e : Entry) (v : ℕ) → IsIndexed logs x → Stands (length logs) logs k p e → get_or x.next.items k 0 ≡ p → kind e.call e.reply ≡ kinds.Look t saw q → t < tasks_of x → v ≡ get_or x.links.items (get_or x.starts.items k 0 + p) 0 → v ≢ none → v < length (log_at logs k)
+later-within logs x k p t saw q e v ix s next h lt read ne =
+    let hit : looks_at t (entry_at logs k p e) ≡ true = rw s.entry (look-passes t saw q e h).0 in
+    let on = ix.looks.linked t k p e lt s.caller (omega arith) s.within hit in
+    (found (looks_at t) (Lets t views.Gone) (log_at logs k) (suc p) v some_entry (lets-passes t views.Gone) (sym (read ∙ on)) ne).within
 
 -- the next look of caller k tells the takes
 look-reply : (c : Call) (r : Reply) (t : ℕ) (y : Seen) (q : Bool) → kind c r ≡ kinds.Look t y q → r ≡ replies.Task y

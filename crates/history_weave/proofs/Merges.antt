@@ -36,7 +36,7 @@ length-led s [] = refl
 length-led s (e ∷ es) = length-led (stepped s e) es ∙ length-after s e.caller e.call
 
 -- states with the same tasks are one
-same_states : (a b : State) → a.workers ≡ b.workers → length a.tasks ≡ length b.tasks → ((i : ℕ) → task_at a i ≡ task_at b i) → a ≡ b
+pub same_states : (a b : State) → a.workers ≡ b.workers → length a.tasks ≡ length b.tasks → ((i : ℕ) → task_at a i ≡ task_at b i) → a ≡ b
 same_states a b w l t =
     let tasks : a.tasks ≡ b.tasks = ext_get_or resting a.tasks b.tasks l (λ i lt. t i) in
     let made : ℕ → List TaskState → State = λ n ts. record { workers = n; tasks = ts } in

@@ -33,7 +33,7 @@ first-holds w i e h t b ev l =
     let later = Holds-boxed w i b (put (places.Boxed b) t) h l refl in
     elim (whose b e h) [ inl mine ↦ rw (mine.1, ev) later | inr others ↦ rw others.1 later ]
 
-first-draw : (w i : ℕ) (e : Entry) (h : List Entry) (t : TaskState) → event_at i e ≡ draws → LegalFor w i (put (places.Drawn e.caller) t) h → ReadyAt (left (e ∷ h)) e.caller.0 i draws t
+pub first-draw : (w i : ℕ) (e : Entry) (h : List Entry) (t : TaskState) → event_at i e ≡ draws → LegalFor w i (put (places.Drawn e.caller) t) h → ReadyAt (left (e ∷ h)) e.caller.0 i draws t
 first-draw w i e h t ev l =
     elim (whose e.caller.0 e h) [
       | inl mine ↦ elim (TellsTakes-drawn w i e.caller (put (places.Drawn e.caller) t) h l refl) [
@@ -155,7 +155,7 @@ takes-at w k x takes b n f m a = absurd (held_in_box k b a.1)
 takes-at w k x drops b n f m a = absurd (let h = a.1 in cc)
 takes-at w k x retires b n f m a = absurd (elim a.1 [ inl held ↦ held_in_box k b held | inr q ↦ cc ])
 
-takes-boxed : (w : ℕ) (k : CallerId) (v : Event) (b : ℕ) (t : TaskState) → Allows w k v t → t.place ≡ places.Boxed b → (next k v t).takes ≡ t.takes
+pub takes-boxed : (w : ℕ) (k : CallerId) (v : Event) (b : ℕ) (t : TaskState) → Allows w k v t → t.place ≡ places.Boxed b → (next k v t).takes ≡ t.takes
 takes-boxed w k (sees x c) b t a h =
     at_place (λ s. Allows w k (sees x c) s → (altered k c s).takes ≡ s.takes) t (places.Boxed b) h (λ g. takes-at w k x c b t.pending t.killed t.takes g) a
 takes-boxed w k apart b t a h = refl

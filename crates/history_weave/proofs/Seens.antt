@@ -144,7 +144,7 @@ quiet-at k retires t may h = absurd (retired-loud k t.place t.pending t.killed t
 pub quiet_same : (w : ℕ) (k : CallerId) (x : Seen) (c : Change) (t : TaskState) → Allows w k (sees x c) t → is_quiet x c ≡ true → altered k c t ≡ t
 quiet_same w k x c t a h = let h' : is_quiet (seen_of t) c ≡ true = rw a.0 h in quiet-at k c t a.1 h'
 
-moved-seen : (t : TaskState) (p q : Place) → t.place ≡ p → seen_of (put q t) ≡ seen_at p t → seen_of (put q t) ≡ seen_of t
+pub moved-seen : (t : TaskState) (p q : Place) → t.place ≡ p → seen_of (put q t) ≡ seen_at p t → seen_of (put q t) ≡ seen_of t
 moved-seen t p q h e = e ∙ ap (λ v. seen_at v t) (sym h)
 
 -- an event that is allowed leaves what calls see, or leads on

@@ -1,11 +1,11 @@
 -- What the index tells of the logs (docs/WEAVE.md, "The index").
-use Rattle.std.specs.Prelude.{◌≡◌, ℕ, suc, ◌+◌, ◌/◌, ◌<◌, ◌≤◌, Bool, true, List, ◌∷◌, take, length, slice_index, vec_len}
+use Rattle.std.specs.Prelude.{◌≡◌, ◌≢◌, ℕ, suc, ◌+◌, ◌/◌, ◌<◌, ◌≤◌, Bool, true, List, ◌∷◌, take, length, slice_index, vec_len}
 use Rattle.task_machine.specs.declared.calls.Entry.{Entry}
 use Rattle.task_machine.specs.Logged.{Logged}
 use Rattle.history_weave.specs.declared.index.Index.{Index}
 use Rattle.history_weave.specs.Rule.{draws_in}
 use Rattle.history_weave.specs.declared.kinds.Kind.{Kind}
-use Rattle.history_weave.specs.Kinds.{looks_at, gathers_at, kind, KindNamed}
+use Rattle.history_weave.specs.Kinds.{looks_at, gathers_at, kind, kind_mark, KindNamed}
 use Rattle.history_weave.specs.Places.{PlaceTable, place_at, none, next_place, log_at, entry_at, left_of, entry_count, sum_over}
 
 -- how many groups so many tasks make
@@ -26,6 +26,8 @@ tasks_of x = vec_len x.draws
 pub record HasShape (callers : ℕ) (x : Index) : Type 0 where
   pub look_rows : x.looks.rows ≡ tasks_of x
   pub look_columns : x.looks.columns ≡ callers
+  pub mark_rows : x.marks.rows ≡ tasks_of x
+  pub mark_columns : x.marks.columns ≡ callers
   pub get_rows : x.gets.rows ≡ groups (tasks_of x)
   pub get_columns : x.gets.columns ≡ callers
   pub starts_len : length x.starts.items ≡ callers
@@ -51,11 +53,17 @@ pub record IsLaidOut (logs : List Logged) (x : Index) : Type 0 where
 abbrev pub draws_left : List Logged → List ℕ → ℕ → ℕ
 draws_left logs next i = sum_over (λ k. draws_in i (left_of logs next k)) 0 (length logs)
 
+-- beside each place of a look stands the mark of the entry there
+abbrev pub AreMarked : List Logged → PlaceTable → PlaceTable → Type 0
+AreMarked logs looks marks =
+    (i k : ℕ) (e : Entry) → i < looks.rows → k < looks.columns → place_at looks i k ≢ none → entry_at logs k (place_at looks i k) e ≡ e → place_at marks i k ≡ kind_mark (kind e.call e.reply)
+
 -- the index tells of the logs, of which the entries are left that its own list says
 pub record IsIndexed (logs : List Logged) (x : Index) : Type 0 where
   pub shape : HasShape (length logs) x
   pub layout : IsLaidOut logs x
   pub looks : IsChain looks_at (tasks_of x) (length logs) logs x.next.items x.starts.items x.looks x.links.items
+  pub marked : AreMarked logs x.looks x.marks
   pub gets : IsChain gathers_at (groups (tasks_of x)) (length logs) logs x.next.items x.starts.items x.gets x.links.items
   pub draws : (i : ℕ) → i < tasks_of x → slice_index x.draws.items i ≡ draws_left logs x.next.items i
 

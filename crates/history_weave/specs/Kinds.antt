@@ -1,5 +1,5 @@
 -- What an entry is for the task, or the group, that it is about (docs/WEAVE.md, "The index").
-use Rattle.std.specs.Prelude.{◌≡◌, ℕ, ◌*◌, ◌%◌, ◌<◌, ◌⊎◌, Bool, true, false, ◌==◌, List}
+use Rattle.std.specs.Prelude.{◌≡◌, ℕ, ◌+◌, ◌*◌, ◌%◌, ◌^◌, ◌<◌, ◌⊎◌, Bool, true, false, ◌==◌, if◌then◌else◌, List}
 use Rattle.std.specs.Int.{bit_at}
 use Rattle.task_machine.specs.declared.task.Seen.{Seen}
 use Rattle.task_machine.specs.declared.task.Seen.TheVariants as views
@@ -16,6 +16,7 @@ use Rattle.history_weave.specs.declared.kinds.Aim.{Aim}
 use Rattle.history_weave.specs.declared.kinds.Aim.TheVariants as aims
 use Rattle.history_weave.specs.declared.kinds.Kind.{Kind}
 use Rattle.history_weave.specs.declared.kinds.Kind.TheVariants as kinds
+use Rattle.history_weave.specs.Places.{none}
 use Rattle.history_weave.specs.Rule.{is_quiet, Lets, Holds, TellsTakes, IsLastDraw}
 
 -- what a look is to change; drops and retirements are as quiet as takes
@@ -103,3 +104,17 @@ KindGoes logs s k (kinds.Post t b) = Holds t (logs b)
 KindGoes logs s k (kinds.Get g) = Unit {0}
 KindGoes logs s k (kinds.Draw t) = TellsTakes t (task_at s t).takes (logs k) ⊎ IsLastDraw logs k t
 KindGoes logs s k kinds.Apart = Unit {0}
+
+-- a number that tells apart most of what looks can see
+abbrev pub seen_mark : Seen → ℕ
+seen_mark views.Gone = 0
+seen_mark (views.Live st p b m) = p + 256 * (m % 2 ^ 48)
+
+-- the mark of a look: that of what it saw, where it is quiet
+abbrev pub look_mark : Seen → Bool → ℕ
+look_mark x q = if q then seen_mark x else none
+
+-- the mark of an entry of this kind
+abbrev pub kind_mark : Kind → ℕ
+kind_mark (kinds.Look t x q) = look_mark x q
+kind_mark κ = none

@@ -1,4 +1,5 @@
 pub mod Going
+pub mod InWords
 pub mod Indexed
 pub mod Kinds
 pub mod Merge

@@ -1,13 +1,15 @@
 //! Which entries are left in the logs, and where the next entry of a kind stands in each.
 
-ghost use Rattle.std.specs.Prelude.{◌≡◌, ℕ, ◌+◌, ◌-◌, ◌*◌, ◌/◌, ◌<◌, ◌≤◌, ◌∷◌, IsTrue, ◌↔◌, IfOk, length, slice_index, slice_set, vec_len};
+ghost use Rattle.std.specs.Prelude.{◌≡◌, ◌≢◌, ℕ, ◌+◌, ◌-◌, ◌*◌, ◌/◌, ◌<◌, ◌≤◌, ◌∷◌, IsTrue, ◌↔◌, IfOk, length, slice_index, slice_set, vec_len};
 ghost use Rattle.task_machine.specs.Step.{State, task_at};
 ghost use Rattle.history_weave.specs.Rule.{Lets, Holds, TellsTakes, SawTakes};
-ghost use Rattle.history_weave.specs.Kinds.{KindNamed, KindSeen, KindGoes};
+ghost use Rattle.history_weave.specs.Kinds.{kind, kind_mark, KindNamed, KindSeen, KindGoes};
 ghost use Rattle.history_weave.specs.Places.{none, log_at, left_of, entry_count, entry_at};
 ghost use Rattle.task_machine.specs.declared.calls.Entry.{Entry};
 
-use crate::kinds::{Kind, holds_task, kind_of, looks_quietly, same_seen, saw_takes};
+use crate::kinds::{
+    Kind, holds_task, kind_of, look_mark, looks_quietly, mark_of, same_seen, saw_takes, seen_mark,
+};
 use crate::places::{NONE, Places};
 use sched_base::TaskId;
 use std::alloc::{AllocError, Global};
@@ -21,6 +23,8 @@ const GROUP: usize = 64;
 pub(crate) struct Index {
     /// In row i and column k: the next look at task i in log k.
     pub looks: Places,
+    /// In row i and column k: the mark of that look.
+    pub marks: Places,
     /// In row g and column k: the next get of group g in log k.
     pub gets: Places,
     /// How many draws of each task are left.
@@ -52,6 +56,7 @@ impl Index {
         next.resize(callers, 0)?;
         Ok(Index {
             looks: Places::new(alloc, tasks, callers)?,
+            marks: Places::new(alloc, tasks, callers)?,
             gets: Places::new(alloc, (tasks + GROUP - 1) / GROUP, callers)?,
             draws,
             links: Vec::new(alloc),
@@ -74,9 +79,10 @@ impl Index {
         let link = self.starts[k] + place;
         self.next[k] = place;
         match kind_of(&logs[k].as_slice()[place]) {
-            Kind::Look { task, .. } => {
+            Kind::Look { task, seen, quiet } => {
                 self.links[link] = self.looks.at(task as usize, k);
                 self.looks.set(task as usize, k, place);
+                self.marks.set(task as usize, k, look_mark(&seen, quiet));
             }
             Kind::Get { group } => {
                 self.links[link] = self.gets.at(group as usize, k);
@@ -105,7 +111,9 @@ impl Index {
         self.next[k] = place + 1;
         match kind_of(&logs[k].as_slice()[place]) {
             Kind::Look { task, .. } => {
-                self.looks.set(task as usize, k, self.links[link]);
+                let later = self.links[link];
+                self.looks.set(task as usize, k, later);
+                self.marks.set(task as usize, k, mark_at(logs, k, later));
             }
             Kind::Get { group } => {
                 self.gets.set(group as usize, k, self.links[link]);
@@ -123,13 +131,27 @@ impl Index {
         requires indexed { IsIndexed logs.now self.now }
         ensures { IsTrue result ↔ ((j : ℕ) → Lets task seen.now (left_of logs.now self.now.next.items j)) }
     {
+        let mark = seen_mark(seen);
         for k in 0..logs.len() {
-            let place = self.looks.at(task, k);
-            if place != NONE && looks_quietly(entry_at(logs, k, place), seen) {
+            if self.marks.at(task, k) == mark && !self.lets_next(logs, k, task, seen) {
                 return false;
             }
         }
         true
+    }
+
+    /// Whether the next look of caller k at a task did not see this, or changes something.
+    fn lets_next(&self, logs: &[Log], k: usize, task: usize, seen: &Seen) -> bool
+        requires caller { k < length logs.now }
+        requires task { task < tasks_of self.now }
+        requires indexed { IsIndexed logs.now self.now }
+        ensures { IsTrue result ↔ Lets task seen.now (left_of logs.now self.now.next.items k) }
+    {
+        let place = self.looks.at(task, k);
+        if place == NONE {
+            return true;
+        }
+        !looks_quietly(entry_at(logs, k, place), seen)
     }
 
     /// Whether the next get of a task's group in this box holds the task, if there is one.
@@ -242,6 +264,18 @@ impl Index {
             self.enter(logs, k, place);
         }
     }
+}
+
+/// The mark of the entry at a place of log k, if there is one.
+fn mark_at(logs: &[Log], k: usize, place: usize) -> usize
+    requires caller { k < length logs.now }
+    requires within { place ≢ none → place < length (log_at logs.now k) }
+    ensures { (e : Entry) → place ≢ none → entry_at logs.now k place e ≡ e → result ≡ kind_mark (kind e.call e.reply) }
+{
+    if place == NONE {
+        return NONE;
+    }
+    mark_of(entry_at(logs, k, place))
 }
 
 /// The entry at a place of log k.

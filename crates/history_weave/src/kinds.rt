@@ -1,9 +1,10 @@
 //! What an entry is for the task that it is about.
 
-ghost use Rattle.std.specs.Prelude.{◌≡◌, ◌/◌, ◌%◌, IsTrue, ◌↔◌};
+ghost use Rattle.std.specs.Prelude.{◌≡◌, ◌+◌, ◌*◌, ◌^◌, ◌/◌, ◌%◌, IsTrue, ◌↔◌};
 ghost use Rattle.history_weave.specs.Rule.{is_quiet, is_rest};
-ghost use Rattle.history_weave.specs.Kinds.{change_of, look, kind, LooksQuietly, HoldsTask, SameTakes, SawTakesOf};
+ghost use Rattle.history_weave.specs.Kinds.{change_of, look, kind, seen_mark, look_mark, kind_mark, LooksQuietly, HoldsTask, SameTakes, SawTakesOf};
 
+use crate::places::NONE;
 use sched_base::{Reasons, TaskId};
 use task_machine::{Call, Entry, Reply, Seen, Stand};
 
@@ -103,6 +104,34 @@ pub(crate) fn looks_quietly(entry: &Entry, seen: &Seen) -> bool
             ..
         } => quiet && same_seen(&saw, seen),
         Kind::Post { .. } | Kind::Get { .. } | Kind::Draw { .. } | Kind::Apart => false,
+    }
+}
+
+/// A number that tells apart most of what looks can see.
+pub(crate) fn seen_mark(seen: &Seen) -> usize
+    ensures { result ≡ seen_mark seen.now }
+{
+    match *seen {
+        Seen::Gone => 0,
+        Seen::Live { pending, takes, .. } => pending.bits() as usize
+            + 256 * (takes % (1 << 48)) as usize,
+    }
+}
+
+/// The mark of a look: that of what it saw, where it is quiet.
+pub(crate) fn look_mark(seen: &Seen, quiet: bool) -> usize
+    ensures { result ≡ look_mark seen.now quiet }
+{
+    if quiet { seen_mark(seen) } else { NONE }
+}
+
+/// The mark of an entry.
+pub(crate) fn mark_of(entry: &Entry) -> usize
+    ensures { result ≡ kind_mark (kind entry.now.call entry.now.reply) }
+{
+    match kind_of(entry) {
+        Kind::Look { seen, quiet, .. } => look_mark(&seen, quiet),
+        Kind::Post { .. } | Kind::Get { .. } | Kind::Draw { .. } | Kind::Apart => NONE,
     }
 }
 

@@ -7,5 +7,5 @@ mod laws;
 mod places;
 mod weaver;
 
-pub use laws::merges_agree;
+pub use laws::{merges_agree, rule_is_in_words};
 pub use weaver::Weaver;

@@ -12,6 +12,7 @@ invariant-loop-k l =
       starts_len : length l.self.starts.items ≡ length l.fn.self.starts.items;
       next_len : length l.self.next.items ≡ length l.fn.self.next.items;
       looks : l.self.looks ≡ l.fn.self.looks;
+      marks : l.self.marks ≡ l.fn.self.marks;
       gets : l.self.gets ≡ l.fn.self.gets;
       draws : l.self.draws ≡ l.fn.self.draws;
       links : l.self.links ≡ l.fn.self.links;
