@@ -1,15 +1,14 @@
 -- The steps on a box word: a post and a get.
-use Rattle.std.proofs.Common.{◌≡◌, ◌≢◌, ◌⊎◌, ℕ, suc, ◌+◌, ◌*◌, ◌/◌, ◌%◌, ◌^◌, ◌<◌, ◌≤◌, Bool, true, false, ◌==◌, ◌&&◌, if◌then◌else◌, nat_lt, List, [], ◌∷◌, length, get_or, set, bit_or, refl, sym, ap, subst, ◌∙◌, inl, inr, arith, eq-eqb, ne_eqb, eqb-true}
-use Rattle.std.proofs.lemmas.Bool.{cases_eq, cases_Bool, lt-ltb}
-use Rattle.std.proofs.lemmas.List.{get_or-set_same, get_or-set_other}
+use Rattle.std.proofs.Common.{◌≡◌, ◌≢◌, ℕ, suc, ◌+◌, ◌*◌, ◌/◌, ◌%◌, ◌^◌, ◌<◌, ◌≤◌, Bool, true, false, ◌==◌, if◌then◌else◌, List, [], ◌∷◌, length, get_or, set, bit_or, refl, sym, ap, subst, ◌∙◌, inl, inr, arith, eq-eqb, ne_eqb, eqb-true}
+use Rattle.std.proofs.lemmas.Bool.{cases_eq, lt-ltb}
+use Rattle.std.proofs.lemmas.List.{get_or-set_same}
 use Rattle.std.proofs.lemmas.Nat.{or_lt, same_from_place, mul-add-lt}
 use Rattle.std.proofs.lemmas.Nat.Bits.{bit_at_set_same, bit_at_set_other, bit_at-zero, bit_at-pow_same, bit_at-pow_other}
 use Rattle.std.proofs.Math.ListN.{length-set}
 use Rattle.std.proofs.Math.Nat.{mul_comm}
 use Rattle.std.proofs.Math.Pow.{pow-lt}
 use Rattle.std.specs.Int.{bit_at, w64}
-use mathlib.Core.Option.{some, none}
-use lib.ListN.{get_elem?}
+use mathlib.Core.Option.{none}
 use Rattle.atomic_table.specs.Table as table
 use Rattle.sched_base.specs.declared.names.CallerId.{CallerId}
 use Rattle.task_machine.specs.declared.task.Place.{Place}
@@ -17,13 +16,12 @@ use Rattle.task_machine.specs.declared.task.Place.TheVariants as places
 use Rattle.task_machine.specs.declared.task.TaskState.{TaskState}
 use Rattle.task_machine.specs.declared.calls.Call.{Call}
 use Rattle.task_machine.specs.declared.calls.Call.TheVariants as calls
-use Rattle.task_machine.specs.declared.calls.Reply.{Reply}
 use Rattle.task_machine.specs.declared.calls.Reply.TheVariants as replies
 use Rattle.task_machine.specs.declared.calls.Entry.{Entry}
 use Rattle.task_machine.specs.Task.{is_boxed, in_hands, put, got, seen_of, seen_at}
 use Rattle.task_machine.specs.Step.{State, task_at, bit, IsBox, Allowed}
 use Rattle.task_machine.specs.History.{stepped}
-use Rattle.task_machine.specs.Own.{Own, away, holding, own_at}
+use Rattle.task_machine.specs.Own.{holding, own_at}
 use Rattle.task_machine.proofs.After.{task_at-after}
 use Rattle.task_word.specs.Word.{StandsFor}
 use Rattle.wake_board.specs.declared.body.Body.{Body}
@@ -44,7 +42,7 @@ abbrev parts : Place → ℕ → Bool → ℕ → TaskState
 parts p n b m = record { place = p; pending = n; killed = b; takes = m }
 
 -- two places of box words are one only for one group of one box
-box_places : (n b g x y : ℕ) → 64 * g < n → 64 * y < n → box_at n b g ≡ box_at n x y → (b ≡ x) × (g ≡ y)
+pub box_places : (n b g x y : ℕ) → 64 * g < n → 64 * y < n → box_at n b g ≡ box_at n x y → (b ≡ x) × (g ≡ y)
 box_places n b g x y lg ly e =
     let same : b * groups n + g ≡ x * groups n + y = omega arith in
     same_from_place b g x y (groups n) (omega arith) (omega arith) same
@@ -55,15 +53,15 @@ box_within w n b g lb lg =
     let turn : groups n * (w + 1) ≡ (w + 1) * groups n = mul_comm (groups n) (w + 1) in
     omega arith
 
-task_apart : (n b g j : ℕ) → j < n → suc j ≢ box_at n b g
+pub task_apart : (n b g j : ℕ) → j < n → suc j ≢ box_at n b g
 task_apart n b g j h e = omega arith
 
 -- what a box word tells depends on its own tasks alone
-IsBox-group : (m m' : State) (b g n : ℕ) → ((j : ℕ) → j < 64 → is_boxed b (task_at m' (64 * g + j)).place ≡ is_boxed b (task_at m (64 * g + j)).place) → IsBox m b g n → IsBox m' b g n
+pub IsBox-group : (m m' : State) (b g n : ℕ) → ((j : ℕ) → j < 64 → is_boxed b (task_at m' (64 * g + j)).place ≡ is_boxed b (task_at m (64 * g + j)).place) → IsBox m b g n → IsBox m' b g n
 IsBox-group m m' b g n same h = (h.0, λ j l. h.1 j l ∙ ap bit (sym (same j l)))
 
 -- all box words after a step on one of them
-boxes_after : (o : Start) (words : List ℕ) (m m' : State) (b g y : ℕ) → Worded o words m → b ≤ o.state.workers → 64 * g < length o.state.tasks → IsBox m' b g y → ((x h j : ℕ) → j < 64 → ((x ≡ b) × (h ≡ g) → ⊥) → is_boxed x (task_at m' (64 * h + j)).place ≡ is_boxed x (task_at m (64 * h + j)).place) → (x h : ℕ) → x ≤ o.state.workers → 64 * h < length o.state.tasks → IsBox m' x h (get_or (set words (box_at (length o.state.tasks) b g) y) (box_at (length o.state.tasks) x h) 0)
+pub boxes_after : (o : Start) (words : List ℕ) (m m' : State) (b g y : ℕ) → Worded o words m → b ≤ o.state.workers → 64 * g < length o.state.tasks → IsBox m' b g y → ((x h j : ℕ) → j < 64 → ((x ≡ b) × (h ≡ g) → ⊥) → is_boxed x (task_at m' (64 * h + j)).place ≡ is_boxed x (task_at m (64 * h + j)).place) → (x h : ℕ) → x ≤ o.state.workers → 64 * h < length o.state.tasks → IsBox m' x h (get_or (set words (box_at (length o.state.tasks) b g) y) (box_at (length o.state.tasks) x h) 0)
 boxes_after o words m m' b g y r lb lg here others x h lx lh =
     let n : ℕ = length o.state.tasks in
     let at : ℕ = box_at n b g in
@@ -78,11 +76,11 @@ boxes_after o words m m' b g y r lb lg here others x h lx lh =
     ]
 
 -- a step on a box word leaves the words of tasks that are seen as before
-tasks_after : (o : Start) (words : List ℕ) (m m' : State) (b g y : ℕ) → Worded o words m → ((j : ℕ) → seen_of (task_at m' j) ≡ seen_of (task_at m j)) → (j : ℕ) → j < length o.state.tasks → StandsFor (get_or (set words (box_at (length o.state.tasks) b g) y) (suc j) 0) (seen_of (task_at m' j))
+pub tasks_after : (o : Start) (words : List ℕ) (m m' : State) (b g y : ℕ) → Worded o words m → ((j : ℕ) → seen_of (task_at m' j) ≡ seen_of (task_at m j)) → (j : ℕ) → j < length o.state.tasks → StandsFor (get_or (set words (box_at (length o.state.tasks) b g) y) (suc j) 0) (seen_of (task_at m' j))
 tasks_after o words m m' b g y r seen j l =
     subst (λ (k : ℕ). StandsFor k (seen_of (task_at m' j))) (sym (get_word-other words (box_at (length o.state.tasks) b g) (suc j) y (task_apart (length o.state.tasks) b g j l))) (subst (StandsFor (get_or words (suc j) 0)) (sym (seen j)) (r.tasks j l))
 
-in_group : (i : ℕ) → 64 * (i / 64) + i % 64 ≡ i
+pub in_group : (i : ℕ) → 64 * (i / 64) + i % 64 ≡ i
 in_group i = omega arith
 
 group_of : (g j : ℕ) → j < 64 → ((64 * g + j) / 64 ≡ g) × ((64 * g + j) % 64 ≡ j)
@@ -97,7 +95,7 @@ posted_lead b k t e =
     subst (λ (p : Place). SameLead (let x : TaskState = record t { place = p } in x) (put (places.Boxed b) t)) (sym e) (record { leads = λ owner p l. l; gained = refl; takes = refl; lives = λ h x. cc })
 
 -- the box word after a post
-box_posted : (m m' : State) (b i n : ℕ) (u : TaskState) → OneTask m m' i u → is_boxed b u.place ≡ true → IsBox m b (i / 64) n → IsBox m' b (i / 64) (bit_or n (bit_mask (i % 64)))
+pub box_posted : (m m' : State) (b i n : ℕ) (u : TaskState) → OneTask m m' i u → is_boxed b u.place ≡ true → IsBox m b (i / 64) n → IsBox m' b (i / 64) (bit_or n (bit_mask (i % 64)))
 box_posted m m' b i n u one boxed h =
     let low : i % 64 < 64 = omega arith in
     let small : bit_mask (i % 64) < 2 ^ 64 = omega arith in (
@@ -113,11 +111,11 @@ box_posted m m' b i n u one boxed h =
     )
 
 -- a bit is known by its mask
-mask_pow : (j : ℕ) → j < 64 → bit_mask j ≡ 2 ^ j
+pub mask_pow : (j : ℕ) → j < 64 → bit_mask j ≡ 2 ^ j
 mask_pow j l =
     let below : 2 ^ j < 2 ^ 64 = pow-lt l in omega arith
 
-mask_same : (a b : ℕ) → a < 64 → b < 64 → bit_mask a ≡ bit_mask b → a ≡ b
+pub mask_same : (a b : ℕ) → a < 64 → b < 64 → bit_mask a ≡ bit_mask b → a ≡ b
 mask_same a b la lb e =
     elim (cases_eq a b) [
       | inl same ↦ same
@@ -249,11 +247,11 @@ got_others k x (places.Drawn j) n b m ne = refl
 got_others k x (places.Runs j) n b m ne = refl
 got_others k x places.Gone n b m ne = refl
 
-bit_one : (b : Bool) → bit b ≡ 1 → b ≡ true
+pub bit_one : (b : Bool) → bit b ≡ 1 → b ≡ true
 bit_one true e = refl
 bit_one false e = cc
 
-boxed_place : (b : ℕ) (p : Place) → is_boxed b p ≡ true → p ≡ places.Boxed b
+pub boxed_place : (b : ℕ) (p : Place) → is_boxed b p ≡ true → p ≡ places.Boxed b
 boxed_place b places.Rest e = cc
 boxed_place b (places.Hands j) e = cc
 boxed_place b (places.Boxed c) e = ap places.Boxed (sym (eqb-true b c e))

@@ -31,7 +31,7 @@ use Rattle.wake_board.specs.Gathered.{Gathers}
 use Rattle.wake_board.proofs.Wakes.{workers-led, length-led}
 
 -- an entry's caller is there
-caller_named : (s : State) (k : CallerId) (c : Call) → is_named s k c ≡ true → k.0 ≤ s.workers
+pub caller_named : (s : State) (k : CallerId) (c : Call) → is_named s k c ≡ true → k.0 ≤ s.workers
 caller_named s k c h = grind (arith, nat_tests)
 
 -- nobody beyond the callers has an entry
@@ -63,7 +63,7 @@ own_same k j o true e ne h = eqb-true j k e
 own_same k j o false e ne h = absurd (ne (sym h))
 
 -- where caller k holds a task between rounds, it is a caller
-held_caller : (w home holder k : ℕ) (p : Place) → PlacedBy w home holder p → own_at k p ≡ holding → k ≤ w
+pub held_caller : (w home holder k : ℕ) (p : Place) → PlacedBy w home holder p → own_at k p ≡ holding → k ≤ w
 held_caller w home holder k places.Rest placed h = cc
 held_caller w home holder k (places.Hands j) placed h =
     let same = own_same k j.0 holding (j.0 == k) refl (λ e. cc) h in
@@ -73,7 +73,7 @@ held_caller w home holder k (places.Drawn j) placed h = absurd placed
 held_caller w home holder k (places.Runs j) placed h = absurd placed
 held_caller w home holder k places.Gone placed h = cc
 
-never_drawn : (w home holder k : ℕ) (p : Place) → PlacedBy w home holder p → own_at k p ≢ drawing
+pub never_drawn : (w home holder k : ℕ) (p : Place) → PlacedBy w home holder p → own_at k p ≢ drawing
 never_drawn w home holder k places.Rest placed h = cc
 never_drawn w home holder k (places.Hands j) placed h = neither (j.0 == k) h
   where
@@ -85,7 +85,7 @@ never_drawn w home holder k (places.Drawn j) placed h = absurd placed
 never_drawn w home holder k (places.Runs j) placed h = absurd placed
 never_drawn w home holder k places.Gone placed h = cc
 
-never_run : (w home holder k : ℕ) (p : Place) → PlacedBy w home holder p → own_at k p ≢ running
+pub never_run : (w home holder k : ℕ) (p : Place) → PlacedBy w home holder p → own_at k p ≢ running
 never_run w home holder k places.Rest placed h = cc
 never_run w home holder k (places.Hands j) placed h = neither (j.0 == k) h
   where
@@ -214,6 +214,7 @@ module _ (o : Opening) (board : TableId) (s : table.State Body View) (r : IsKept
         workers = workers-led (start_of o).state r.history;
         few = r.opened.few;
         count = length-led (start_of o).state r.history ∙ count;
+        boxed = r.opened.boxed;
         valid = Legal-valid (start_of o).state r.history r.legal r.opened.valid;
         tasks = λ i l. r.words.tasks i (omega arith);
         boxes = λ b g lb lg. subst (λ (n : ℕ). Rattle.task_machine.specs.Step.IsBox m b g (get_or s.words (box_at n b g) 0)) count (r.words.boxes b g lb (omega arith));

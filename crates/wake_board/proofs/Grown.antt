@@ -11,13 +11,14 @@ use Rattle.task_machine.specs.declared.calls.Reply.{Reply}
 use Rattle.task_machine.specs.declared.calls.Entry.{Entry}
 use Rattle.task_machine.specs.Step.{task_at, bit}
 use Rattle.task_machine.specs.Since.{is_take}
-use Rattle.task_machine.specs.Own.{own_at, own_of}
+use Rattle.task_machine.specs.Event.{event_at}
+use Rattle.task_machine.specs.Own.{Own, own_at, own_next, own_of}
 use Rattle.wake_board.specs.declared.body.Body.{Body}
 use Rattle.wake_board.specs.declared.views.View.{View}
 use Rattle.wake_board.specs.Start.{Start, start_in}
-use Rattle.wake_board.specs.Seen.{Held, entry_by, own_log, logged, with_call, own_view, Attests, Calls, Told}
+use Rattle.wake_board.specs.Seen.{Held, entry_by, own_log, logged, with_call, own_view, Attests, Calls, Told, AreAbsent, Misses, ToldMisses, missed}
 use Rattle.wake_board.specs.Ends.{own_by}
-use Rattle.wake_board.specs.Own.{takes_in, held_by, IsPass}
+use Rattle.wake_board.specs.Own.{takes_in, known_takes, held_by, IsPass}
 
 pub takes_in-end : (i : ℕ) (es : List Entry) (e : Entry) → takes_in i (es ++ e ∷ []) ≡ takes_in i es + bit (is_take i e.call)
 takes_in-end i [] e = omega arith
@@ -83,3 +84,30 @@ IsPass-taken who takes me new i n a r t is within =
           ];
     } in
     subst (IsPass who (set takes i n)) (sym t.seat) there
+
+own_of-end : (i : ℕ) (o : Own) (es : List Entry) (e : Entry) → own_of i o (es ++ e ∷ []) ≡ own_next (own_of i o es) (event_at i e)
+own_of-end i o [] e = refl
+own_of-end i o (x ∷ es) e = own_of-end i (own_next o (event_at i x)) es e
+
+-- what a pass has, and what it knows, after a call
+pub own-called : (old new : Held) (c : Call) (a : Reply) (i : ℕ) → Calls old c a new → own_by new i ≡ own_next (own_by old i) (event_at i (entry_by old.who c a))
+own-called old new c a i t =
+    ap (λ (p : Held). own_by p i) t.entry ∙ own_of-end i (own_at old.who (task_at old.start.state i).place) old.entries (entry_by old.who c a)
+
+pub takes-called : (old new : Held) (c : Call) (a : Reply) (i : ℕ) → Calls old c a new → known_takes new.start new.entries i ≡ known_takes old.start old.entries i + bit (is_take i c)
+takes-called old new c a i t =
+    let more = takes_in-end i old.entries (entry_by old.who c a) in
+    ap (λ (p : Held). known_takes p.start p.entries i) t.entry ∙ (let z : (task_at old.start.state i).takes + takes_in i (old.entries ++ entry_by old.who c a ∷ []) ≡ known_takes old.start old.entries i + bit (is_take i c) = omega arith in z)
+
+-- misses leave the parts of a pass together
+pub IsPass-missed : (who : ℕ) (takes : List ℕ) (me new : Me Body View) (tasks : List ℕ) → IsPass who takes me → ToldMisses me tasks new → IsPass who takes new
+IsPass-missed who takes me new tasks r t =
+    let there : IsPass who takes (missed me.0 tasks, me.1) = record { log = r.log; number = r.number; slots = r.slots; sized = r.sized; known = r.known } in
+    subst (IsPass who takes) (sym t.seat) there
+
+pub Misses-told : (board later : TableId) (who : ℕ) (takes : List ℕ) (me new : Me Body View) (tasks : List ℕ) → later ≡ board → IsPass who takes me → ToldMisses me tasks new → Misses (held_by board who me.0) tasks (held_by later who new.0)
+Misses-told board later who takes me new tasks same r t =
+    record {
+      noted = ap (λ (b : TableId). held_by b who new.0) same ∙ ap (λ (x : Me Body View). held_by board who x.0) t.seat;
+      absent = subst (λ (n : ℕ). AreAbsent (start_in me.0.start) n (own_log me.0.logs) tasks) r.number t.absent;
+    }

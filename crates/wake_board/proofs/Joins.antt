@@ -10,9 +10,9 @@ use Rattle.task_machine.specs.History.{calls_of}
 use Rattle.wake_board.specs.declared.views.Opening.{Opening}
 use Rattle.wake_board.specs.declared.views.View.{View}
 use Rattle.wake_board.specs.Start.{start_of}
-use Rattle.wake_board.specs.Rule.{now_of, IsLogged, IsKept}
+use Rattle.wake_board.specs.Rule.{now_of, IsLogged, IsSeated, IsKept}
 use Rattle.wake_board.specs.Seen.{view_both, view_spent}
-use Rattle.wake_board.proofs.Tables.{at_below, at_append}
+use Rattle.wake_board.proofs.Tables.{at_below, at_append, at_front, at_behind}
 use Rattle.wake_board.proofs.Splits.{out_under, away_not}
 
 -- a seat of a table after a join: the one that was taken in, the one that took it in, or another
@@ -40,6 +40,41 @@ owner_taken owner other id k e = ap (λ (b : Bool). if b then id else owner k) (
 owner_kept : (owner : ℕ → ℕ) (other id k p : ℕ) → p ≢ other → owner k ≡ p → owner_join owner other id k ≡ p
 unfolding owner_join
 owner_kept owner other id k p ne e = ap (λ (b : Bool). if b then id else owner k) (ne_eqb (owner k) other (λ same. ne (sym e ∙ same))) ∙ e
+
+-- each caller's log is some seat's after a join
+seated_join : (views : List View) (id : ℕ) (v : View) (other : ℕ) (w : View) (k : ℕ) → id ≢ other → get_elem? views id ≡ some v → get_elem? views other ≡ some w → w.first + length w.logs ≡ v.first → IsSeated views k → IsSeated (set (set views id (view_both v w)) other view_spent) k
+seated_join views id v other w k apart at there next r =
+    let both : View = view_both v w in
+    let here : get_elem? (set (set views id both) other view_spent) id ≡ some both = set_else (set views id both) other id view_spent apart ∙ set_here views id both (at_below views id v at) in
+    elim (cases_eq r.seat other) [
+      | inl same ↦
+          (let isw : r.view ≡ w = some-injective r.view w (sym (subst (λ (n : ℕ). get_elem? views n ≡ some r.view) same r.at) ∙ there) in
+          record {
+            seat = id;
+            view = both;
+            place = r.place;
+            log = r.log;
+            at = here;
+            found = at_front w.logs v.logs r.place r.log (subst (λ (u : View). get_elem? u.logs r.place ≡ some r.log) isw r.found);
+            caller = ap (λ (u : View). u.first + r.place) (sym isw) ∙ r.caller;
+          })
+      | inr ne ↦ elim (cases_eq r.seat id) [
+        | inl same ↦
+            (let isv : r.view ≡ v = some-injective r.view v (sym (subst (λ (n : ℕ). get_elem? views n ≡ some r.view) same r.at) ∙ at) in
+            let first : v.first + r.place ≡ k = ap (λ (u : View). u.first + r.place) (sym isv) ∙ r.caller in
+            record {
+              seat = id;
+              view = both;
+              place = length w.logs + r.place;
+              log = r.log;
+              at = here;
+              found = at_behind w.logs v.logs r.place r.log (subst (λ (u : View). get_elem? u.logs r.place ≡ some r.log) isv r.found);
+              caller = (let z : w.first + (length w.logs + r.place) ≡ v.first + r.place = omega arith in z ∙ first);
+            })
+        | inr else' ↦
+            record { seat = r.seat; view = r.view; place = r.place; log = r.log; at = set_else (set views id both) other r.seat view_spent ne ∙ (set_else views id r.seat both else' ∙ r.at); found = r.found; caller = r.caller }
+      ]
+    ]
 
 pub joins : (o : Opening) (id : ℕ) (v : View) (other : ℕ) (w : View) (es : List Entry) (ess : List (List Entry)) → v.logs ≡ es ∷ ess → w.outs ≡ [] → w.first + length w.logs ≡ v.first → table.Joins (IsKept o) id v other w (view_both v w) view_spent
 joins o id v other w es ess logs none_out next s r at apart at_other =
@@ -84,6 +119,7 @@ joins o id v other w es ess logs none_out next s r at apart at_other =
                   record { start = l.start; owned = owner_kept r.owner other id (u.first + j) p else'.0 l.owned; caller = l.caller; calls = l.calls })
             ]
           ];
+      seated = λ k l. seated_join s.views id v other w k apart' at there next (r.seated k l);
       missed = λ p u j i at' miss boxed.
           elim (after_join s.views id other both view_spent p u at').seat [
             | inl gone ↦ absurd (some-ne-none i (sym (subst (λ (y : View). get_elem? y.misses j ≡ some i) (sym gone.1) miss)))

@@ -1,7 +1,7 @@
 -- How often a task was taken, by the entries of the one caller that takes it.
-use Rattle.std.proofs.Common.{◌≡◌, ◌≢◌, ◌⊎◌, ℕ, zero, suc, ◌+◌, ◌<◌, Bool, true, false, ◌==◌, if◌then◌else◌, List, [], ◌∷◌, refl, sym, ap, subst, ◌∙◌, inl, inr, arith, eq-eqb, ne_eqb, eqb-true}
+use Rattle.std.proofs.Common.{◌≡◌, ◌≢◌, ℕ, suc, ◌+◌, Bool, true, false, ◌==◌, if◌then◌else◌, List, [], ◌∷◌, refl, sym, ap, subst, ◌∙◌, inl, inr, arith, eq-eqb, ne_eqb, eqb-true}
 use Rattle.std.proofs.lemmas.Bool.{cases_eq, cases_Bool}
-use mathlib.Core.Option.{some, none}
+use mathlib.Core.Option.{some}
 use lib.ListN.{get_elem?}
 use Rattle.sched_base.specs.declared.names.CallerId.{CallerId}
 use Rattle.task_machine.specs.declared.task.Place.{Place}
@@ -10,8 +10,8 @@ use Rattle.task_machine.specs.declared.task.TaskState.{TaskState}
 use Rattle.task_machine.specs.declared.calls.Call.{Call}
 use Rattle.task_machine.specs.declared.calls.Call.TheVariants as calls
 use Rattle.task_machine.specs.declared.calls.Entry.{Entry}
-use Rattle.task_machine.specs.Task.{gone, is_gone, is_boxed, put, raised, woken, flagged, got, taken}
-use Rattle.task_machine.specs.Step.{State, task_at, is_about, bit, changed, moved, Allowed}
+use Rattle.task_machine.specs.Task.{is_gone, is_boxed, put, woken, flagged, got}
+use Rattle.task_machine.specs.Step.{State, task_at, is_about, bit, changed, Allowed}
 use Rattle.task_machine.specs.History.{stepped, Legal, led, calls_of}
 use Rattle.task_machine.specs.Since.{is_take}
 use Rattle.task_machine.specs.Event.{Event, apart, sees, posts, gets, misses, draws, wakes, kills, takes, drops, retires, event_at, Allows, next}
@@ -34,7 +34,7 @@ gone-next w k gets t e h = (let a = h.0 in cc)
 gone-next w k misses t e h = e
 gone-next w k draws t e h = cc
 
-gone-led : (s : State) (h : List Entry) (i : ℕ) → Legal s h → (task_at s i).place ≡ places.Gone → (task_at (led s h) i).place ≡ places.Gone
+pub gone-led : (s : State) (h : List Entry) (i : ℕ) → Legal s h → (task_at s i).place ≡ places.Gone → (task_at (led s h) i).place ≡ places.Gone
 gone-led s [] i l e = e
 gone-led s (x ∷ h) i l e =
     gone-led (stepped s x) h i l.1 (ap (λ (t : TaskState). t.place) (task_at-stepped s x l.0 i) ∙ gone-next s.workers x.caller (event_at i x) (task_at s i) e ((Allowed-split s x l.0).1 i))

@@ -1,5 +1,6 @@
 pub mod Boxes
 pub mod Deals
+pub mod Draws
 pub mod Ends
 pub mod Grown
 pub mod Joins
@@ -7,7 +8,10 @@ pub mod Known
 pub mod Looks
 pub mod Moves
 pub mod Opens
+pub mod Pace
+pub mod Places
 pub mod Runs
+pub mod Seats
 pub mod Splits
 pub mod Tables
 pub mod Tasks

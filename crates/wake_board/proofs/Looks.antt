@@ -1,7 +1,7 @@
 -- A step on a task's word: what is left to show for each call.
-use Rattle.std.proofs.Common.{◌≡◌, ◌≢◌, ℕ, suc, ◌+◌, ◌<◌, Bool, true, List, [], ◌∷◌, length, get_or, set, refl, sym, ap, subst, ◌∙◌, inl, inr, ⊎_elim, arith}
+use Rattle.std.proofs.Common.{◌≡◌, ◌≢◌, ℕ, suc, ◌+◌, ◌<◌, true, List, [], ◌∷◌, length, get_or, set, refl, sym, ap, subst, ◌∙◌, inl, inr, ⊎_elim}
 use Rattle.std.proofs.lemmas.Bool.{cases_eq}
-use mathlib.Core.Option.{Option, some, none, some-injective}
+use mathlib.Core.Option.{Option, some, some-injective}
 use lib.ListN.{get_elem?}
 use Rattle.atomic_table.specs.Table as table
 use Rattle.sched_base.specs.declared.names.CallerId.{CallerId}
@@ -13,9 +13,9 @@ use Rattle.task_machine.specs.declared.calls.Reply.{Reply}
 use Rattle.task_machine.specs.declared.calls.Reply.TheVariants as replies
 use Rattle.task_machine.specs.declared.calls.Entry.{Entry}
 use Rattle.task_machine.specs.Task.{is_boxed, seen_of}
-use Rattle.task_machine.specs.Step.{State, task_at, subject, names, needs, is_named, Roomy, changed, IsReply, Allowed}
+use Rattle.task_machine.specs.Step.{State, task_at, subject, names, needs, Roomy, changed, IsReply, Allowed}
 use Rattle.task_machine.specs.History.{stepped}
-use Rattle.task_machine.specs.Own.{Own, away, holding, drawing, running, own_at, own_of}
+use Rattle.task_machine.specs.Own.{own_at, own_of}
 use Rattle.task_machine.proofs.About.{NoGet}
 use Rattle.task_machine.proofs.Own.{own-led}
 use Rattle.task_word.specs.Word.{seen_in, StandsFor}
@@ -29,7 +29,7 @@ use Rattle.wake_board.specs.Start.{Start, start_of, start_in, IsShared}
 use Rattle.wake_board.specs.Rule.{now_of, IsHomed, TakesAtHome, IsPaced, Leads, gain, IsOut, Housed, IsKept}
 use Rattle.wake_board.specs.Seen.{entry_by, own_log, logged, own_view}
 use Rattle.wake_board.specs.Own.{NoBody}
-use Rattle.wake_board.proofs.Tasks.{OneTask, one-after, each_task, worded-one, each_part, IsAway-set, SameLead, same_lead, IsOut-same, housed-same}
+use Rattle.wake_board.proofs.Tasks.{OneTask, one-after, worded-one, each_part, IsAway-set}
 use Rattle.wake_board.proofs.Moves.{own_first, kept-call}
 use Rattle.wake_board.proofs.Wakes.{named-now}
 

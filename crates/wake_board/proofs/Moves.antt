@@ -1,10 +1,10 @@
 -- A call adds one entry to the history, and to the log of its caller.
 use Rattle.std.proofs.Common.{◌≡◌, ◌≢◌, ℕ, suc, ◌+◌, ◌≤◌, Bool, if◌then◌else◌, Some, List, [], ◌∷◌, ◌++◌, length, set, refl, sym, ap, subst, ◌∙◌, inl, inr, ⊎_elim, arith, eq-eqb, ne_eqb, append-nil}
 use Rattle.std.proofs.lemmas.Bool.{cases_eq}
-use mathlib.Core.Option.{Option, some}
+use mathlib.Core.Option.{Option, some, some-injective}
 use lib.ListN.{get_elem?}
 use Rattle.atomic_table.specs.Table as table
-use Rattle.atomic_table.proofs.Lists.{at_set}
+use Rattle.atomic_table.proofs.Lists.{at_set, set_here, set_else}
 use Rattle.task_machine.specs.declared.task.Place.TheVariants as places
 use Rattle.task_machine.specs.declared.calls.Call.{Call}
 use Rattle.task_machine.specs.declared.calls.Reply.{Reply}
@@ -16,9 +16,9 @@ use Rattle.wake_board.specs.declared.body.Body.{Body}
 use Rattle.wake_board.specs.declared.views.Opening.{Opening}
 use Rattle.wake_board.specs.declared.views.View.{View}
 use Rattle.wake_board.specs.Start.{Start, start_of, start_in}
-use Rattle.wake_board.specs.Rule.{now_of, Worded, TakesAtHome, IsPaced, Paced, IsLogged, HasDraw, Housed, IsKept}
+use Rattle.wake_board.specs.Rule.{now_of, Worded, TakesAtHome, IsPaced, Paced, IsLogged, IsSeated, HasDraw, Housed, IsKept}
 use Rattle.wake_board.specs.Seen.{entry_by, own_log, logged, Attests}
-use Rattle.wake_board.proofs.Tables.{at_end, at_front, at_single}
+use Rattle.wake_board.proofs.Tables.{at_below, at_end, at_front, at_single}
 
 pub Paced-append : (o : Start) (n : ℕ) (xs : List Entry) (e : Entry) → Paced o n xs → IsPaced o (n + length xs) e.call → Paced o n (xs ++ e ∷ [])
 Paced-append o n [] e h p = let z : n + 0 ≡ n = omega arith in (subst (λ (k : ℕ). IsPaced o k e.call) z p, tt)
@@ -81,6 +81,26 @@ logs_after o s r id v e at one who p u j es at' log =
           record { start = l.start; owned = l.owned; caller = l.caller; calls = calls_of-other (u.first + j) r.history e ne ∙ l.calls })
     ]
 
+-- each caller's log is still some seat's
+seated_after : (views : List View) (id : ℕ) (v : View) (e : Entry) (k : ℕ) → get_elem? views id ≡ some v → v.logs ≡ own_log v.logs ∷ [] → IsSeated views k → IsSeated (set views id (logged v e)) k
+seated_after views id v e k at one r =
+    elim (cases_eq r.seat id) [
+      | inl same ↦
+          (let isv : r.view ≡ v = some-injective r.view v (sym (subst (λ (n : ℕ). get_elem? views n ≡ some r.view) same r.at) ∙ at) in
+          let only = at_single (own_log v.logs) r.log r.place (subst (λ (l : List (List Entry)). get_elem? l r.place ≡ some r.log) one (subst (λ (u : View). get_elem? u.logs r.place ≡ some r.log) isv r.found)) in
+          let first : v.first + r.place ≡ k = ap (λ (u : View). u.first + r.place) (sym isv) ∙ r.caller in
+          record {
+            seat = id;
+            view = logged v e;
+            place = 0;
+            log = own_log v.logs ++ e ∷ [];
+            at = set_here views id (logged v e) (at_below views id v at);
+            found = refl;
+            caller = subst (λ (n : ℕ). v.first + n ≡ k) only.0 first;
+          })
+      | inr ne ↦ record { seat = r.seat; view = r.view; place = r.place; log = r.log; at = set_else views id r.seat (logged v e) ne ∙ r.at; found = r.found; caller = r.caller }
+    ]
+
 -- no caller's pace is lost by a call that keeps its own
 paced_after : (o : Start) (h : List Entry) (e : Entry) → ((k : ℕ) → Paced o 0 (calls_of k h)) → IsPaced o (length (calls_of e.caller.0 h)) e.call → (k : ℕ) → Paced o 0 (calls_of k (h ++ e ∷ []))
 paced_after o h e r p k =
@@ -114,6 +134,7 @@ kept-call o s r id v e words homes at one who allowed home pace worded housed =
       takes = λ j d a. ⊎_elim (λ b. r.takes j d b) (λ b. subst (λ (x : Entry). TakesAtHome (start_of o) x.caller x.call) b.1 home) (at_end r.history e d j a);
       paced = paced_after (start_of o) r.history e r.paced (subst (λ (l : List Entry). IsPaced (start_of o) (length l) e.call) (sym (ap (λ (n : ℕ). calls_of n r.history) who ∙ own.2)) pace);
       logs = logs_after o s r id v e at one who;
+      seated = λ k l. seated_after s.views id v e k at one (r.seated k l);
       missed = missed_after o s r id v e at;
       housed = subst (λ (m : State). Housed (start_of o) r.owner m homes (set s.views id (logged v e))) (sym now) housed;
     }

@@ -88,7 +88,12 @@ at_replicate zero a j b e = absurd (some-ne-none b (sym e))
 at_replicate (suc n) a zero b e = (omega arith, sym (some-injective a b e))
 at_replicate (suc n) a (suc j) b e = let m = at_replicate n a j b e in let l = m.0 in (omega arith, m.1)
 
-homed_by : (o : Start) (w home holder : ℕ) (i : ℕ) (p : Place) → get_or o.homes i 0 ≡ home → PlacedBy w home holder p → IsHomed o i p
+at_like : {A : Type 0} (n : ℕ) (a : A) (j : ℕ) → j < n → get_elem? (replicate n a) j ≡ some a
+at_like zero a j l = absurd (omega arith)
+at_like (suc n) a zero l = refl
+at_like (suc n) a (suc j) l = at_like n a j (omega arith)
+
+pub homed_by : (o : Start) (w home holder : ℕ) (i : ℕ) (p : Place) → get_or o.homes i 0 ≡ home → PlacedBy w home holder p → IsHomed o i p
 homed_by o w home holder i places.Rest e h = tt
 homed_by o w home holder i (places.Hands k) e h = tt
 homed_by o w home holder i (places.Boxed b) e h = e ∙ sym h.1
@@ -131,6 +136,7 @@ opens o row bodies is_row is_bodies wide deep r few =
           let item = at_replicate (suc ws.workers) [] j es (subst (λ (x : View). get_elem? x.logs j ≡ some es) (sym here.1) log) in
           let first : IsLogged o (λ k. 0) [] 0 (first_view o) j [] = record { start = refl; owned = refl; caller = (let l = item.0 in omega arith); calls = refl } in
           subst (λ (q : ℕ). IsLogged o (λ k. 0) [] q v j es) (sym here.0) (subst (λ (x : View). IsLogged o (λ k. 0) [] 0 x j es) here.1 (subst (λ (l : List Entry). IsLogged o (λ k. 0) [] 0 (first_view o) j l) (sym item.1) first));
+      seated = λ k l. record { seat = 0; view = first_view o; place = k; log = []; at = refl; found = at_like (suc ws.workers) [] k (omega arith); caller = (let z : 0 + k ≡ k = omega arith in z) };
       missed = λ p v j i at miss boxed.
           let here = at_single (first_view o) v p at in
           absurd (some-ne-none i (sym (subst (λ (x : View). get_elem? x.misses j ≡ some i) (sym here.1) miss)));

@@ -1,5 +1,5 @@
 -- The steps of a take, of the end of a run and of a retirement.
-use Rattle.std.proofs.Common.{◌≡◌, ◌≢◌, ◌⊎◌, ℕ, suc, ◌+◌, ◌-◌, ◌^◌, ◌<◌, Bool, true, false, ◌==◌, ◌||◌, if◌then◌else◌, List, [], ◌∷◌, length, get_or, set, bit_and, refl, sym, ap, subst, ◌∙◌, inl, inr, arith, eq-eqb, eqb-true}
+use Rattle.std.proofs.Common.{◌≡◌, ◌≢◌, ◌⊎◌, ℕ, suc, ◌+◌, ◌-◌, ◌^◌, ◌<◌, Bool, true, false, ◌==◌, ◌||◌, if◌then◌else◌, [], ◌∷◌, length, get_or, bit_and, refl, sym, ap, subst, ◌∙◌, inl, inr, arith, eq-eqb, eqb-true}
 use mathlib.Core.Option.{some, none}
 use lib.ListN.{get_elem?}
 use Rattle.atomic_table.specs.Table as table
@@ -10,25 +10,23 @@ use Rattle.task_machine.specs.declared.task.Place.TheVariants as places
 use Rattle.task_machine.specs.declared.task.TaskState.{TaskState}
 use Rattle.task_machine.specs.declared.calls.Call.{Call}
 use Rattle.task_machine.specs.declared.calls.Call.TheVariants as calls
-use Rattle.task_machine.specs.declared.calls.Reply.{Reply}
 use Rattle.task_machine.specs.declared.calls.Reply.TheVariants as replies
 use Rattle.task_machine.specs.declared.calls.Entry.{Entry}
 use Rattle.task_machine.specs.Task.{gone, is_busy, is_boxed, in_hands, in_draw, in_run, seen_of, taken, dropped}
-use Rattle.task_machine.specs.Step.{State, task_at, needs, Allowed}
+use Rattle.task_machine.specs.Step.{State, task_at}
 use Rattle.task_machine.specs.History.{stepped}
-use Rattle.task_machine.specs.Own.{Own, away, holding, drawing, running, own_at}
+use Rattle.task_machine.specs.Own.{away, holding, drawing, running, own_at}
 use Rattle.task_word.specs.Word.{seen_in, StandsFor, drop_mask, taken_word}
 use Rattle.task_word.proofs.Words.{dropped_follows}
 use Rattle.wake_board.specs.declared.body.Body.{Body}
 use Rattle.wake_board.specs.declared.views.Opening.{Opening}
 use Rattle.wake_board.specs.declared.views.View.{View}
-use Rattle.wake_board.specs.Start.{Start, start_of, start_in, home_of, IsShared}
-use Rattle.wake_board.specs.Rule.{now_of, IsHomed, Leads, Housed, IsKept}
+use Rattle.wake_board.specs.Start.{Start, start_of, home_of, IsShared}
+use Rattle.wake_board.specs.Rule.{now_of, IsHomed, Leads, IsKept}
 use Rattle.wake_board.specs.Seen.{entry_by, own_log, logged, own_view, Told, TellsCall}
 use Rattle.wake_board.specs.Own.{takes_in, known_takes, NoBody}
-use Rattle.wake_board.proofs.Tasks.{OneTask}
 use Rattle.wake_board.proofs.Moves.{own_first, attests-call}
-use Rattle.wake_board.proofs.Looks.{LookStep, look-kept, own-now, housed-free, free_hands, free_led, free_own}
+use Rattle.wake_board.proofs.Looks.{LookStep, look-kept, own-now, housed-free, free_led, free_own}
 use Rattle.wake_board.proofs.Known.{takes-led, takes_in-home}
 
 -- a caller by its number

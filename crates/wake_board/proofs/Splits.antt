@@ -1,10 +1,11 @@
 -- Passes leave the first seat one by one, and come back to it.
-use Rattle.std.proofs.Common.{◌≡◌, ◌≢◌, ◌⊎◌, ℕ, suc, ◌+◌, ◌<◌, ◌≤◌, Bool, ◌==◌, if◌then◌else◌, List, [], ◌∷◌, ◌++◌, length, set, refl, sym, ap, subst, ◌∙◌, inl, inr, ⊎_elim, arith, eq-eqb, ne_eqb}
+use Rattle.std.proofs.Common.{◌≡◌, ◌≢◌, ◌⊎◌, ℕ, zero, suc, ◌+◌, ◌<◌, ◌≤◌, Bool, ◌==◌, if◌then◌else◌, List, [], ◌∷◌, ◌++◌, length, set, refl, sym, ap, subst, ◌∙◌, inl, inr, ⊎_elim, arith, eq-eqb, ne_eqb}
+use Rattle.std.proofs.lemmas.Bool.{cases_eq}
 use Rattle.std.proofs.Math.ListN.{length-set}
 use mathlib.Core.Option.{Option, some, some-injective, some-ne-none}
 use lib.ListN.{get_elem?}
 use Rattle.atomic_table.specs.Table as table
-use Rattle.atomic_table.proofs.Lists.{at_set, set_else, at_longer}
+use Rattle.atomic_table.proofs.Lists.{at_set, set_here, set_else, at_longer, at_last}
 use Rattle.task_machine.specs.declared.task.Place.{Place}
 use Rattle.task_machine.specs.declared.task.Place.TheVariants as places
 use Rattle.task_machine.specs.declared.calls.Entry.{Entry}
@@ -14,7 +15,7 @@ use Rattle.wake_board.specs.declared.views.Opening.{Opening}
 use Rattle.wake_board.specs.declared.views.Out.{Out}
 use Rattle.wake_board.specs.declared.views.View.{View}
 use Rattle.wake_board.specs.Start.{Start, start_of}
-use Rattle.wake_board.specs.Rule.{now_of, IsLogged, Leads, IsOut, IsKept}
+use Rattle.wake_board.specs.Rule.{now_of, IsLogged, IsSeated, Leads, IsOut, IsKept}
 use Rattle.wake_board.specs.Seen.{own_log, rest_of, view_left, view_right}
 use Rattle.wake_board.proofs.Tables.{at_below, at_single, at_end}
 
@@ -71,6 +72,38 @@ away_not views id v p u j x at none_out at' out same =
     let here : get_elem? v.outs j ≡ some x = subst (λ (y : View). get_elem? y.outs j ≡ some x) is out in
     absurd (some-ne-none x (sym (subst (λ (l : List Out). get_elem? l j ≡ some x) none_out here)))
 
+-- each caller's log is some seat's after a split, by the place of the log in the seat that was cut
+seated_cut : (views : List View) (id : ℕ) (v : View) (es : List Entry) (ess : List (List Entry)) (j k : ℕ) (log : List Entry) → get_elem? views id ≡ some v → v.logs ≡ es ∷ ess → get_elem? (es ∷ ess) j ≡ some log → v.first + j ≡ k → IsSeated (set views id (view_left v) ++ view_right v ∷ []) k
+seated_cut views id v es ess zero k log at logs found caller =
+    record {
+      seat = length views;
+      view = view_right v;
+      place = 0;
+      log = own_log v.logs;
+      at = at_last (set views id (view_left v)) (view_right v) (length views) (length-set views id (view_left v));
+      found = refl;
+      caller = caller;
+    }
+seated_cut views id v es ess (suc j) k log at logs found caller =
+    record {
+      seat = id;
+      view = view_left v;
+      place = j;
+      log = log;
+      at = at_longer (set views id (view_left v)) (view_right v ∷ []) id (view_left v) (set_here views id (view_left v) (at_below views id v at));
+      found = subst (λ (l : List (List Entry)). get_elem? (rest_of l) j ≡ some log) (sym logs) found;
+      caller = (let z : suc v.first + j ≡ v.first + suc j = omega arith in z ∙ caller);
+    }
+
+seated_split : (views : List View) (id : ℕ) (v : View) (es : List Entry) (ess : List (List Entry)) (k : ℕ) → get_elem? views id ≡ some v → v.logs ≡ es ∷ ess → IsSeated views k → IsSeated (set views id (view_left v) ++ view_right v ∷ []) k
+seated_split views id v es ess k at logs r =
+    elim (cases_eq r.seat id) [
+      | inl same ↦
+          (let isv : r.view ≡ v = some-injective r.view v (sym (subst (λ (n : ℕ). get_elem? views n ≡ some r.view) same r.at) ∙ at) in
+          seated_cut views id v es ess r.place k r.log at logs (subst (λ (l : List (List Entry)). get_elem? l r.place ≡ some r.log) logs (subst (λ (u : View). get_elem? u.logs r.place ≡ some r.log) isv r.found)) (ap (λ (u : View). u.first + r.place) (sym isv) ∙ r.caller))
+      | inr ne ↦ record { seat = r.seat; view = r.view; place = r.place; log = r.log; at = at_longer (set views id (view_left v)) (view_right v ∷ []) r.seat r.view (set_else views id r.seat (view_left v) ne ∙ r.at); found = r.found; caller = r.caller }
+    ]
+
 pub splits : (o : Opening) (id : ℕ) (v : View) (es : List Entry) (ess : List (List Entry)) → v.logs ≡ es ∷ ess → v.outs ≡ [] → table.Splits (IsKept o) id v (view_left v) (view_right v)
 splits o id v es ess logs none_out s r at =
     let left : View = view_left v in
@@ -122,6 +155,7 @@ splits o id v es ess logs none_out s r at =
                   subst (λ (q : ℕ). IsLogged o owner r.history q u j log) (sym last.0) (subst (λ (y : View). IsLogged o owner r.history new y j log) last.1 (subst (λ (n : ℕ). IsLogged o owner r.history new right n log) (sym item.0) (subst (IsLogged o owner r.history new right 0) is made))))
             ]
           ];
+      seated = λ k l. seated_split s.views id v es ess k at logs (r.seated k l);
       missed = λ p u j i at' miss boxed.
           elim (after_split s.views id left right p u at').seat [
             | inl here ↦ r.missed id v j i at (subst (λ (y : View). get_elem? y.misses j ≡ some i) (sym here.1) miss) boxed

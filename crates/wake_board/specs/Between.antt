@@ -24,12 +24,13 @@ PlacedBy w home holder places.Gone = holder ≡ no_holder
 abbrev pub BodyFits : List (List ℕ) → ℕ → Body → ℕ → Type 0
 BodyFits nexts i body t = (body.takes ≡ t) × (body.row ≡ row_after nexts i t)
 
--- the words and bodies, with the list of holders, stand for the state m: where tasks have these homes, and shared ones
--- these next rows
+-- the words and bodies, with the list of holders, stand for the state m: where tasks have these homes, which are boxes, and
+-- shared ones these next rows
 pub record StandBetween (ws : WordRow) (homes holders : List ℕ) (nexts : List (List ℕ)) (m : State) : Type 0 where
   pub workers : m.workers ≡ ws.workers
   pub few : ws.workers ≤ 64
   pub count : length m.tasks ≡ ws.tasks
+  pub boxed : (i : ℕ) → i < ws.tasks → slice_index homes i ≤ ws.workers
   pub valid : IsValid m
   pub tasks : (i : ℕ) → i < ws.tasks → StandsFor (task_word ws i) (seen_of (task_at m i))
   pub boxes : (b g : ℕ) → b ≤ ws.workers → 64 * g < ws.tasks → IsBox m b g (box_word ws b g)

@@ -7,3 +7,4 @@ pub mod Own
 pub mod Sized
 pub mod Ends
 pub mod Gathered
+pub mod Laws

@@ -101,6 +101,16 @@ pub record Housed (o : Start) (owner : ℕ → ℕ) (m : State) (homes : List (O
   pub apart : (p : ℕ) (v : View) (i j : ℕ) (x y : Out) → get_elem? views p ≡ some v → get_elem? v.outs i ≡ some x → get_elem? v.outs j ≡ some y → x.task ≡ y.task → i ≡ j
   pub bodies : (i : ℕ) → i < length o.state.tasks → IsShared o i → (task_at m i).place ≢ places.Gone → IsHome o m homes i ⊎ IsAway views i
 
+-- some seat has the log of caller k
+pub record IsSeated (views : List View) (k : ℕ) : Type 0 where
+  pub seat : ℕ
+  pub view : View
+  pub place : ℕ
+  pub log : List Entry
+  pub at : get_elem? views seat ≡ some view
+  pub found : get_elem? view.logs place ≡ some log
+  pub caller : view.first + place ≡ k
+
 -- some entry draws task i
 abbrev pub IsDraw : ℕ → Call → Type 0
 IsDraw i (calls.Draw j) = i ≡ j.0
@@ -110,8 +120,8 @@ abbrev pub HasDraw : ℕ → List Entry → Type 0
 HasDraw i h = (j : ℕ) × (e : Entry) × (get_elem? h j ≡ some e) × IsDraw i e.call
 
 -- the rule: there is a legal history from the opening to a state for which the words stand; each log that a seat has is
--- the calls of its caller in it; each miss that was in the shared box at the opening was drawn in it; bodies are at home
--- or out
+-- the calls of its caller in it, and some seat has each caller's log; each miss that was in the shared box at the opening
+-- was drawn in it; bodies are at home or out
 pub record IsKept (o : Opening) (s : table.State Body View) : Type 0 where
   pub history : List Entry
   pub owner : ℕ → ℕ
@@ -122,6 +132,7 @@ pub record IsKept (o : Opening) (s : table.State Body View) : Type 0 where
   pub takes : (j : ℕ) (e : Entry) → get_elem? history j ≡ some e → TakesAtHome (start_of o) e.caller e.call
   pub paced : (k : ℕ) → Paced (start_of o) 0 (calls_of k history)
   pub logs : (p : ℕ) (v : View) (j : ℕ) (es : List Entry) → get_elem? s.views p ≡ some v → get_elem? v.logs j ≡ some es → IsLogged o owner history p v j es
+  pub seated : (k : ℕ) → k ≤ (start_of o).state.workers → IsSeated s.views k
   pub missed : (p : ℕ) (v : View) (j i : ℕ) → get_elem? s.views p ≡ some v → get_elem? v.misses j ≡ some i → (task_at (start_of o).state i).place ≡ places.Boxed (start_of o).state.workers → HasDraw i history
   pub housed : Housed (start_of o) owner (now_of (start_of o) history) s.homes s.views
 

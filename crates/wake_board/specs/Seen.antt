@@ -1,6 +1,8 @@
 -- What a pass and a board are to contracts, and what one call tells (docs/BOARD.md, "Passes").
-use Rattle.std.specs.Prelude.{◌≡◌, ℕ, suc, ◌+◌, ◌*◌, ◌/◌, ◌%◌, ◌^◌, ◌<◌, ◌≤◌, List, [], ◌∷◌, ◌++◌, length, None}
-use Rattle.std.specs.Int.{bit_at}
+use Rattle.std.specs.Prelude.{◌≡◌, ◌≢◌, ℕ, zero, suc, ◌+◌, ◌*◌, ◌/◌, ◌%◌, ◌^◌, ◌<◌, ◌≤◌, ◌==◌, ◌&&◌, nat_lt, if◌then◌else◌, List, [], ◌∷◌, ◌++◌, length, None}
+use Rattle.std.specs.Int.{bit_at, bit_not, w64}
+use mathlib.Core.Option.{some}
+use lib.ListN.{get_elem?}
 use Rattle.atomic_table.specs.Seated.{TableId}
 use Rattle.atomic_table.specs.Table.{Me, Step}
 use Rattle.sched_base.specs.declared.names.TaskId.{TaskId}
@@ -10,7 +12,8 @@ use Rattle.task_machine.specs.declared.calls.Reply.{Reply}
 use Rattle.task_machine.specs.declared.calls.Reply.TheVariants as replies
 use Rattle.task_machine.specs.declared.calls.Entry.{Entry}
 use Rattle.task_machine.specs.Step.{task_at}
-use Rattle.task_machine.specs.History.{Legal, calls_of}
+use Rattle.task_machine.specs.declared.task.Place.TheVariants as places
+use Rattle.task_machine.specs.History.{Legal, led, calls_of}
 use Rattle.task_machine.specs.Own.{Own, away, own_at, own_of}
 use Rattle.task_word.specs.Word.{seen_in, wake_bits}
 use Rattle.wake_board.specs.declared.body.Body.{Body}
@@ -105,6 +108,53 @@ BringsHome v g n =
 abbrev pub TellsGet : Step Body → Me Body View → ℕ → Me Body View → Type 0
 TellsGet st me n new =
     (g : ℕ) → 64 * g < count_in me.0 → st.word ≡ box_at (count_in me.0) me.0.first g → Told me (calls.Get g) (replies.Group n) new × BringsHome me.0 g n
+
+-- the tasks are absent from the shared box: some legal history from the opening, in which the own calls of the caller are
+-- the entries, leaves each of them out of it
+abbrev pub AreAbsent : Start → ℕ → List Entry → List ℕ → Type 0
+AreAbsent o k entries tasks =
+    (h : List Entry) × Legal o.state h × (calls_of k h ≡ entries) × ((j i : ℕ) → get_elem? tasks j ≡ some i → (task_at (led o.state h) i).place ≢ places.Boxed o.state.workers)
+
+-- the pass with more misses
+abbrev pub with_misses : Held → List ℕ → Held
+with_misses p tasks = record p { misses = p.misses ++ tasks }
+
+-- the call added no entry, and just these misses, which were absent from the shared box
+pub record Misses (old : Held) (tasks : List ℕ) (new : Held) : Type 0 where
+  pub noted : new ≡ with_misses old tasks
+  pub absent : AreAbsent old.start old.who old.entries tasks
+
+abbrev pub missed : View → List ℕ → View
+missed v tasks = record v { misses = v.misses ++ tasks }
+
+-- what a step that found these tasks absent tells its seat
+pub record ToldMisses (me : Me Body View) (tasks : List ℕ) (new : Me Body View) : Type 0 where
+  pub seat : new ≡ (missed me.0 tasks, me.1)
+  pub absent : AreAbsent (start_in me.0.start) me.0.first (own_log me.0.logs) tasks
+
+-- where a group's word of the shared box stands, by a view
+abbrev pub shared_at : View → ℕ → ℕ
+shared_at v g = box_at (count_in v) (start_in v.start).state.workers g
+
+-- a draw by its word and operand: the task is drawn where its bit was set, and a miss where it was not
+abbrev pub TellsDraw : Step Body → Me Body View → ℕ → Me Body View → Type 0
+TellsDraw st me n new =
+    (i : ℕ) → i < count_in me.0 → st.word ≡ shared_at me.0 (i / 64) → st.first ≡ bit_not w64 (bit_mask (i % 64)) → (bit_at n (i % 64) ≡ 1 → Told me (calls.Draw (record { 0 = i })) replies.Done new) × (bit_at n (i % 64) ≡ 0 → ToldMisses me (i ∷ []) new)
+
+-- the tasks of group g, of n tasks in all, whose bits are clear in a word, from bit j on and for so many bits
+abbrev pub clear_from : ℕ → ℕ → ℕ → ℕ → ℕ → List ℕ
+clear_from n g word j zero = []
+clear_from n g word j (suc bits) =
+    if nat_lt (64 * g + j) n && bit_at word j == 0 then (64 * g + j) ∷ clear_from n g word (suc j) bits else clear_from n g word (suc j) bits
+
+-- the tasks of a group that are not in its word
+abbrev pub clear_in : ℕ → ℕ → ℕ → List ℕ
+clear_in n g word = clear_from n g word 0 64
+
+-- a peep by its word
+abbrev pub TellsPeep : Step Body → Me Body View → ℕ → Me Body View → Type 0
+TellsPeep st me n new =
+    (g : ℕ) → 64 * g < count_in me.0 → st.word ≡ shared_at me.0 g → ToldMisses me (clear_in (count_in me.0) g n) new
 
 -- a seat with several logs gives up the first
 abbrev pub rest_of : List (List Entry) → List (List Entry)

@@ -1,6 +1,6 @@
 //! The board and its calls.
 
-ghost use Rattle.std.specs.Prelude.{◌≡◌, ◌≢◌, ℕ, ◌+◌, ◌-◌, ◌*◌, ◌^◌, ◌<◌, ◌≤◌, length, IfOk};
+ghost use Rattle.std.specs.Prelude.{◌≡◌, ◌≢◌, [], ◌∷◌, true, false, ℕ, ◌+◌, ◌-◌, ◌*◌, ◌^◌, ◌<◌, ◌≤◌, length, IfOk};
 ghost use Rattle.std.specs.Int.{bit_at};
 ghost use Rattle.task_machine.specs.Own.{away, holding, running};
 ghost use Rattle.task_machine.specs.Step.{State};
@@ -10,13 +10,15 @@ ghost use Rattle.wake_board.specs.Between.{StandBetween, FewTakes};
 ghost use Rattle.wake_board.specs.Start.{home_of};
 ghost use Rattle.wake_board.specs.Own.{known_takes, NoBody};
 ghost use Rattle.wake_board.specs.Ends.{Opens, AllBack, Finishes, own_by};
-ghost use Rattle.wake_board.specs.Seen.{Calls, IsPassOf};
+ghost use Rattle.wake_board.specs.Seen.{Calls, Misses, clear_in, IsPassOf};
 
 use crate::body::Body;
 use crate::open::{deal_passes, gather, lay, opening_of};
 use crate::pass::Pass;
 use crate::passes::Passes;
-use crate::views::{Drops, Gets, Kills, Opening, Posts, Retires, Ruling, Takes, View, Wakes};
+use crate::views::{
+    Draws, Drops, Gets, Kills, Opening, Peeps, Posts, Retires, Ruling, Takes, View, Wakes,
+};
 use crate::words::Words;
 use atomic_table::Table;
 use sched_base::{Reasons, TaskId};
@@ -134,6 +136,34 @@ impl Board {
     {
         let at = self.words.box_place(pass.who.0, group);
         self.table.shared.swap::<Gets>(&mut pass.seat, at, 0)
+    }
+
+    /// The word of a group of the shared box: bit j stands for task `64 * group + j`. The tasks that are not in it are
+    /// misses of the pass from now on.
+    pub fn peep(&self, pass: &mut Pass, group: u32) -> u64
+        requires board { IsPassOf self.now pass.old }
+        requires exists { 64 * group < length self.now.start.state.tasks }
+        ensures { Misses pass.old (clear_in (length self.now.start.state.tasks) group result) pass.new }
+    {
+        let at = self.words.box_place(self.words.workers(), group);
+        self.table.shared.load::<Peeps>(&mut pass.seat, at)
+    }
+
+    /// Draws a task out of the shared box, if it is there, and says whether it was. A task that was not is a miss of the
+    /// pass from now on.
+    pub fn draw(&self, pass: &mut Pass, id: TaskId) -> bool
+        requires board { IsPassOf self.now pass.old }
+        requires exists { id.0 < length self.now.start.state.tasks }
+        ensures drawn { result ≡ true → Calls pass.old (calls.Draw id) replies.Done pass.new }
+        ensures missed { result ≡ false → Misses pass.old (id.0 ∷ []) pass.new }
+    {
+        let at = self.words.box_place(self.words.workers(), id.0 / GROUP);
+        let bit = 1u64 << (id.0 % GROUP);
+        let word = self
+            .table
+            .shared
+            .fetch_and::<Draws>(&mut pass.seat, at, !bit);
+        (word >> (id.0 % GROUP)) & 1 == 1
     }
 
     /// Takes a task of the caller's own, which is in its hands, to run it.

@@ -4,6 +4,7 @@
 
 mod board;
 mod body;
+pub mod laws;
 mod open;
 mod pass;
 mod passes;

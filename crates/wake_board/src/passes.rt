@@ -1,6 +1,8 @@
 //! The passes of all callers of a board.
 
-ghost use Rattle.std.specs.Prelude.{◌≡◌, ◌<◌, None, Some, [], length, slice_index_or, slice_set, slice_get};
+ghost use Rattle.std.specs.Prelude.{◌≡◌, ◌≢◌, ℕ, ◌<◌, None, Some, [], length, slice_index_or, slice_set, slice_get};
+ghost use Rattle.task_machine.specs.Own.{drawing};
+ghost use Rattle.wake_board.specs.Ends.{own_by};
 
 use crate::pass::Pass;
 use sched_base::CallerId;
@@ -33,9 +35,11 @@ impl Passes {
         }
     }
 
-    /// Takes back a pass that is out.
+    /// Takes back a pass that is out, has no body out and no task drawn.
     pub fn put(&mut self, pass: Pass)
-        requires { slice_get self.old pass.who ≡ Some None }
+        requires out { slice_get self.old pass.who ≡ Some None }
+        requires bodies { pass.outs ≡ [] }
+        requires undrawn { (i : ℕ) → i < length pass.start.state.tasks → own_by pass i ≢ drawing }
         ensures { self.new ≡ slice_set self.old pass.who (Some pass) }
     {
         let who = pass.who.0 as usize;

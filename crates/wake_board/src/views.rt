@@ -111,6 +111,24 @@ impl Play<Body, View> for Gets {
     ghost then = { TellsGet };
 }
 
+/// A draw.
+pub struct Draws;
+
+impl Play<Body, View> for Draws {
+    ghost use Rattle.wake_board.specs.Seen.{TellsDraw};
+
+    ghost then = { TellsDraw };
+}
+
+/// A look into the shared box.
+pub struct Peeps;
+
+impl Play<Body, View> for Peeps {
+    ghost use Rattle.wake_board.specs.Seen.{TellsPeep};
+
+    ghost then = { TellsPeep };
+}
+
 /// The first caller's pass leaves the seat that has those of all that follow.
 pub struct Leaves;
 

@@ -1,15 +1,13 @@
-use Rattle.std.proofs.Common.{◌≡◌, ◌≢◌, ◌<◌, ◌≤◌, ◌+◌, ◌*◌, ◌/◌, ◌%◌, ℕ, length, get_or, set, refl, sym, ap, subst, ◌∙◌, arith}
+use Rattle.std.proofs.Common.{◌≡◌, ◌<◌, ◌+◌, length, refl, ◌∙◌, arith}
 use Rattle.task_machine.specs.declared.calls.Call.TheVariants as calls
 use Rattle.task_machine.specs.declared.calls.Reply.TheVariants as replies
-use Rattle.task_machine.specs.Own.{away, holding, running}
+use Rattle.task_machine.specs.Own.{running}
 use Rattle.task_word.specs.Word.{seen_in}
-use Rattle.wake_board.specs.Rows.{box_at}
-use Rattle.wake_board.specs.Start.{Start, start_of, start_in, home_of}
-use Rattle.wake_board.specs.Seen.{own_log, own_view, count_in, BringsHome}
-use Rattle.wake_board.specs.Own.{known_takes, NoBody}
-use Rattle.wake_board.specs.Ends.{own_by}
+use Rattle.wake_board.specs.Start.{start_of}
+use Rattle.wake_board.specs.Seen.{own_view}
+use Rattle.wake_board.specs.Own.{NoBody}
 use Rattle.wake_board.proofs.Runs.{drops_on}
-use Rattle.wake_board.proofs.Grown.{IsPass-told, IsPass-taken, Calls-told, own_view-held}
+use Rattle.wake_board.proofs.Grown.{IsPass-told, Calls-told, own_view-held}
 use Rattle.wake_board.proofs.board.Board.drop_run.Goals as goal
 
 pub fetch_and-word-requires : goal.fetch_and-word-requires

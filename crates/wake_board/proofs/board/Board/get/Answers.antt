@@ -1,15 +1,11 @@
-use Rattle.std.proofs.Common.{◌≡◌, ◌≢◌, ◌<◌, ◌≤◌, ◌+◌, ◌*◌, ◌/◌, ◌%◌, ℕ, length, get_or, set, refl, sym, ap, subst, ◌∙◌, arith}
+use Rattle.std.proofs.Common.{◌≡◌, ◌<◌, ◌+◌, ◌*◌, ℕ, length, refl, sym, ap, subst, ◌∙◌, arith}
 use Rattle.task_machine.specs.declared.calls.Call.TheVariants as calls
 use Rattle.task_machine.specs.declared.calls.Reply.TheVariants as replies
-use Rattle.task_machine.specs.Own.{away, holding, running}
-use Rattle.task_word.specs.Word.{seen_in}
 use Rattle.wake_board.specs.Rows.{box_at}
 use Rattle.wake_board.specs.Start.{Start, start_of, start_in, home_of}
-use Rattle.wake_board.specs.Seen.{own_log, own_view, count_in, BringsHome}
-use Rattle.wake_board.specs.Own.{known_takes, NoBody}
-use Rattle.wake_board.specs.Ends.{own_by}
+use Rattle.wake_board.specs.Seen.{count_in}
 use Rattle.wake_board.proofs.Boxes.{gets_on}
-use Rattle.wake_board.proofs.Grown.{IsPass-told, IsPass-taken, Calls-told, own_view-held}
+use Rattle.wake_board.proofs.Grown.{IsPass-told, Calls-told, own_view-held}
 use Rattle.wake_board.proofs.board.Board.get.Goals as goal
 
 pub swap-requires : goal.swap-requires

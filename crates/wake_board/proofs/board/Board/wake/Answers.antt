@@ -4,8 +4,6 @@ use Rattle.task_machine.specs.declared.calls.Reply.TheVariants as replies
 use Rattle.task_word.specs.Word.{seen_in}
 use Rattle.wake_board.specs.Start.{start_of}
 use Rattle.wake_board.proofs.Wakes.{wakes}
-use Rattle.wake_board.proofs.Looks.{look-kept, housed-free}
-use Rattle.wake_board.proofs.Runs.{takes_on, drops_on, retires_on}
 use Rattle.wake_board.proofs.Grown.{IsPass-told, Calls-told}
 use Rattle.wake_board.proofs.board.Board.wake.Goals as goal
 

@@ -1,0 +1,34 @@
+//! Times the calls of a board. The one word of the command is how often each is made, and a line tells the nanoseconds of
+//! each; with no word nothing is timed.
+#![tactic(auto)]
+
+mod caller;
+mod drive;
+mod driven;
+mod has;
+mod laid;
+mod rounds;
+#[cfg(test)]
+mod tests;
+mod work;
+
+use rounds::{cycle_alone, cycle_apart, wake_alone, wake_together};
+use std::{env, io};
+
+fn main(rt: HostRuntime) -> io::Result<()> {
+    let mut words = env::args(&rt)?.skip(1);
+    let Some(word) = words.next() else {
+        return Ok(());
+    };
+    let times = word.parse::<u32>().unwrap_or(0);
+    let rows = [
+        ("wake_alone", wake_alone(&rt, times)?),
+        ("cycle_alone", cycle_alone(&rt, times)?),
+        ("cycle_apart", cycle_apart(&rt, &rt, times)?),
+        ("wake_together", wake_together(&rt, &rt, times)?),
+    ];
+    for (name, tenths) in rows {
+        println!(rt; "{name} {}.{}", tenths / 10, tenths % 10)?;
+    }
+    Ok(())
+}
