@@ -167,7 +167,7 @@ ended_if true T b w = window-settled ahead T b.wait w
 ended_if false T b w = w
 
 -- a worker that asks nothing has been through its sweep
-clock-ended : (s : Script) (T : ℕ) (l : Left) (b : Book) → asked_in s l b ≡ None → is_injectors l ≡ false → InWindow T (stage l b) → Window ahead T b.wait
+pub clock-ended : (s : Script) (T : ℕ) (l : Left) (b : Book) → asked_in s l b ≡ None → is_injectors l ≡ false → InWindow T (stage l b) → Window ahead T b.wait
 clock-ended s T (gets g gs) b e n w = cc
 clock-ended s T (wakes j js) b e n w = w
 clock-ended s T (runs q) b e n w = w

@@ -26,11 +26,11 @@ use Rattle.standing.proofs.Steps.{Keeps-going}
 abbrev after_calls : Script → ℕ → ℕ → Standing → List Entry → ℕ → Book
 after_calls s r T old es k = (told s (caller k) T ((entered s r T old).at k) (calls_of k es)).book
 
-worker_stage : (s : Script) (r T : ℕ) (old : Standing) (k : ℕ) → k < s.workers → (entered s r T old).at k ≡ begun s T (book_at old k)
+pub worker_stage : (s : Script) (r T : ℕ) (old : Standing) (k : ℕ) → k < s.workers → (entered s r T old).at k ≡ begun s T (book_at old k)
 worker_stage s r T old k lt =
     entered_each s r T old (λ k g. k < s.workers → g ≡ begun s T (book_at old k)) k (λ same l. absurd (omega arith)) (λ ne l. refl) lt
 
-injector_stage : (s : Script) (r T : ℕ) (old : Standing) (k : ℕ) → k ≡ s.workers → (entered s r T old).at k ≡ injector s r (blank_book 0)
+pub injector_stage : (s : Script) (r T : ℕ) (old : Standing) (k : ℕ) → k ≡ s.workers → (entered s r T old).at k ≡ injector s r (blank_book 0)
 injector_stage s r T old k same =
     entered_each s r T old (λ k g. k ≡ s.workers → g ≡ injector s r (blank_book 0)) k (λ e l. refl) (λ ne e. absurd (ne e)) same
 

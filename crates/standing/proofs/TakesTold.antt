@@ -71,7 +71,7 @@ apart_take i (calls.Take j) h = h
 apart_take i (calls.DropRun j) h = refl
 apart_take i (calls.Retire j) h = refl
 
-step-takes : (s : State) (e : Entry) (i : ℕ) → Allowed s e → Takes (bit (is_take i e.call)) (task_at s i) (task_at (stepped s e) i)
+pub step-takes : (s : State) (e : Entry) (i : ℕ) → Allowed s e → Takes (bit (is_take i e.call)) (task_at s i) (task_at (stepped s e) i)
 step-takes s e i a =
     by_step s e i (λ t. Takes (bit (is_take i e.call)) (task_at s i) t) a (λ about. changed-takes s.workers e.caller e.call i (task_at s i) about (fits_about s e i a about)) (λ apart h. (h, omega (arith, ap bit (apart_take i e.call apart))))
 

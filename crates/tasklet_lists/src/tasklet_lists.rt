@@ -159,6 +159,14 @@ impl TaskletLists {
         Some(TaskId(ends.first))
     }
 
+    /// The first task of a class's list; None exactly where the list is empty.
+    pub fn first(&self, class: Class) -> Option<TaskId>
+        ensures { MatchOption result (of_class class self.now.lists ≡ []) (λ id. (is : List ℕ) × (of_class class self.now.lists ≡ id.0 ∷ is)) }
+    {
+        let ends = self.ends.of(class);
+        (ends.len > 0).then_some(TaskId(ends.first))
+    }
+
     /// How many tasks a class's list has.
     pub fn len(&self, class: Class) -> u32
         ensures { result ≡ length (of_class class self.now.lists) }

@@ -12,6 +12,7 @@ fn tasks_leave_in_the_order_in_which_they_came(rt: HostRuntime) -> Result<(), Fa
     lists.push(Class::Urgent, TaskId(3));
     lists.push(Class::Bulk, TaskId(0));
     assert_eq!(rt; lists.len(Class::Bulk), 2);
+    assert_eq!(rt; lists.first(Class::Bulk), Some(TaskId(2)));
     assert_eq!(rt; lists.pop(Class::Bulk), Some(TaskId(2)));
     lists.push(Class::Bulk, TaskId(2));
     assert_eq!(rt; lists.pop(Class::Bulk), Some(TaskId(0)));

@@ -1,0 +1,5 @@
+pub mod Queues
+pub mod Turns
+pub mod Workers
+pub mod Engines
+pub mod Shops
