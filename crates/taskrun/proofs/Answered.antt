@@ -1,26 +1,12 @@
 -- The answers of the top call, from those of its parts.
 use Rattle.std.proofs.Common.{◌≡◌, ℕ, ◌+◌, ◌<◌, ◌≤◌, true, List, [], length, take, refl, ◌∙◌, ap, subst, arith, Option, Some, None, IfSome, Result, Ok, Err}
-use Rattle.sched_base.specs.Streams.{Appends, AppendsFront}
 use Rattle.step_tables.specs.declared.faults.ScriptFault.{ScriptFault}
 use Rattle.step_tables.specs.declared.tables.Script.{Script}
 use Rattle.step_tables.specs.Judging.{script_of, byte_limit}
-use Rattle.step_tables.specs.Sound.{is_sound}
-use Rattle.taskrun.specs.FirstForm.{is_first_form}
 use Rattle.step_tables.proofs.Length.{read_length, read_cut}
-use Rattle.run_texts.specs.RunText.{text_of}
 use Rattle.taskrun.specs.declared.status.Status.{Status}
 use Rattle.taskrun.specs.declared.status.Status.TheVariants.{Done, ScriptRefused, Usage, ReadFault, WriteFault, NoMemory, NotLawful, TextRefused}
-use Rattle.taskrun.specs.Answers.{OnScript, Wrote, WroteFront, Answers, Expected, IsRunning}
-use Rattle.taskrun.specs.Play.{play}
-use Rattle.taskrun.proofs.Forms.{play_is_run}
-use Rattle.taskrun.proofs.PlayTexts.{play_reads_back}
-
--- what is written is the text of a run of the script, or a first part of it
-pub wrote : (before after : Option (List ℕ)) (s : Script) → is_first_form s ≡ true → is_sound s ≡ true → Appends before after (text_of (play s)) → OnScript (Ok s) (Wrote before after)
-wrote before after s first sound h = (first, (play s, play_is_run s first sound, play_reads_back s first sound, h))
-
-pub wrote_front : (before after : Option (List ℕ)) (s : Script) → is_first_form s ≡ true → is_sound s ≡ true → AppendsFront before after (text_of (play s)) → OnScript (Ok s) (WroteFront before after)
-wrote_front before after s first sound h = (first, (play s, play_is_run s first sound, h))
+use Rattle.taskrun.specs.Answers.{OnScript, Wrote, Answers, Expected, IsRunning}
 
 -- there is a script
 script_there : (r : Result Script ScriptFault) (P : Script → Type 0) → OnScript r P → (s : Script) × (r ≡ Ok s)
@@ -47,7 +33,7 @@ ended_by (Some all) ended read before after status e h =
 
 -- the answer that comes where no stream fails
 expected : (r : Result Script ScriptFault) (before after : Option (List ℕ)) (status : Status) → Answers r before after status → IsRunning status → (status ≡ WriteFault → ⊥) → Expected r status
-expected (Ok s) before after Done h running never = (h.0, tt)
+expected (Ok s) before after Done h running never = tt
 expected (Err f) before after Done h running never = absurd h
 expected r before after (ScriptRefused fault) h running never = h.0
 expected r before after Usage h running never = absurd running

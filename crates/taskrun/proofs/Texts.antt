@@ -19,8 +19,7 @@ use Rattle.task_machine.specs.History.{Legal, led, stepped}
 use Rattle.task_machine.proofs.After.{task_at-after, subject-lt, length-after}
 use Rattle.transcript.specs.declared.lines.Line.TheVariants as lines
 use Rattle.transcript.specs.HasText.{HasTextLine, HasTextCall, HasTextSeen, TellsTask, FitsCall, FitsReply}
-use Rattle.taskrun.proofs.Went.{SmallCall}
-use Rattle.taskrun.proofs.EngineForm.{both}
+use Rattle.taskrun.proofs.Calls.{SmallCall, both}
 
 -- a task whose numbers have a text
 abbrev pub SmallTask : TaskState → Type 0

@@ -3,7 +3,6 @@ use Rattle.std.specs.Prelude.{◌≡◌, ℕ, ◌≤◌, ◌⊎◌, Bool, true, 
 use Rattle.sched_base.specs.Streams.{Reads, Appends, AppendsFront}
 use Rattle.step_tables.specs.declared.faults.ScriptFault.{ScriptFault}
 use Rattle.step_tables.specs.declared.tables.Script.{Script}
-use Rattle.taskrun.specs.FirstForm.{is_first_form}
 use Rattle.run_model.specs.Run.{Run}
 use Rattle.run_texts.specs.RunLines.{lines_of_run}
 use Rattle.run_texts.specs.RunText.{text_of}
@@ -29,18 +28,14 @@ code_of NoMemory = 5
 code_of (NotLawful line) = 6
 code_of (TextRefused fault) = 7
 
--- the fault that tells that a valid script has a form that is not run yet
-abbrev pub other_form : ScriptFault
-other_form = record { line = 0; kind = 0 }
-
--- there is a script of the form that is run, and what is said of it
+-- there is a script, and what is said of it
 abbrev pub OnScript : Result Script ScriptFault → (Script → Type 0) → Type 0
-OnScript (Ok script) P = (is_first_form script ≡ true) × P script
+OnScript (Ok script) P = P script
 OnScript (Err fault) P = ⊥
 
--- there is none: the text is no script, or its script has another form
+-- there is none, and this is the first fault of the text
 abbrev pub IsRefused : Result Script ScriptFault → ScriptFault → Type 0
-IsRefused (Ok script) fault = (is_first_form script ≡ false) × (fault ≡ other_form)
+IsRefused (Ok script) fault = ⊥
 IsRefused (Err first) fault = fault ≡ first
 
 -- the whole text of a run of the script was written, and it reads back as that run

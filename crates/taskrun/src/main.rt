@@ -2,14 +2,14 @@
 #![tactic(auto)]
 
 mod command_line;
-mod engine;
-mod first_form;
 mod pieces;
 mod rounds;
 mod status;
 #[cfg(test)]
 mod tests;
 mod top;
+#[cfg(test)]
+mod worked;
 
 pub use command_line::answer;
 use sched_base::{OpenGate, StdSink, StdSource};

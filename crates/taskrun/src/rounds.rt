@@ -1,19 +1,18 @@
 //! The rounds of a run, written out one after another.
 
-ghost use Rattle.std.specs.Prelude.{◌≡◌, ℕ, ◌^◌, ◌≤◌, [], ◌++◌, length, true, if◌then◌else◌, IsTrue, IfOk, IfErr, OnOk, OnErr};
-ghost use Rattle.sched_base.specs.Streams.{Appends, AppendsFront, Rose};
-ghost use Rattle.taskrun.specs.FirstForm.{is_first_form};
-ghost use Rattle.transcript.specs.Spelling.{round_text, end_text};
-ghost use Rattle.run_texts.specs.RunText.{text_of};
-ghost use Rattle.taskrun.specs.Play.{turned, is_quiet, cleared, play};
-ghost use Rattle.taskrun.specs.Engine.{world_of, Ready};
+ghost use Rattle.std.specs.Prelude.{◌≡◌, ℕ, ◌+◌, ◌%◌, ◌^◌, ◌<◌, ◌≤◌, ◌==◌, ◌||◌, true, false, List, Option, IsTrue, IfOk, IfErr, OnOk, OnErr};
+ghost use Rattle.sched_base.specs.Streams.{Rose};
+ghost use Rattle.step_tables.specs.Sound.{is_sound};
+ghost use Rattle.run_model.specs.Run.{Round};
+ghost use Rattle.taskrun.specs.Answers.{Wrote, WroteFront};
+ghost use Rattle.taskrun.specs.Rounds.{Plays, Adds, Underway};
 ghost use Rattle.taskrun.specs.declared.rounds.PlayError.TheVariants.{Fault, Memory};
 
-use crate::engine::Engine;
 use crate::pieces::write_all;
 use sched_base::{Failed, Sink};
 use std::alloc::{AllocError, Global};
 use step_tables::Script;
+use thread_loop::Engine;
 use transcript::{write_end, write_head, write_round};
 
 /// Why a run was not written whole.
@@ -41,60 +40,77 @@ impl From<AllocError> for PlayError {
     }
 }
 
-/// Plays a script of the first form, and writes the text of its run round by round. After an
-/// error the sink has a first part of the text.
+/// Runs a script, and writes the text of its run round by round. After an error the sink has a first part
+/// of the text of such a run.
 pub fn play_out<O: Sink>(alloc: Global, script: &Script, out: &mut O) -> Result<(), PlayError>
-    requires { IsTrue (is_first_form script.now) }
-    ensures ok { OnOk result (Appends (O.held out.old) (O.held out.new) (text_of (play script.now))) }
-    ensures err { OnErr result (AppendsFront (O.held out.old) (O.held out.new) (text_of (play script.now))) }
+    ensures ok { OnOk result (Wrote (O.held out.old) (O.held out.new) script.now) }
+    ensures err { OnErr result (WroteFront (O.held out.old) (O.held out.new) script.now) }
     ensures fault { IfErr result (λ e. e ≡ PlayError.Fault → Rose (O.faults out.old) (O.faults out.new)) }
     ensures counted { O.faults out.old ≤ O.faults out.new }
 {
+    let mut tick = script.start();
     let mut engine = Engine::new(alloc, script)?;
     let mut text = Vec::new(alloc);
     write_head(&mut text)?;
-    let rounds = script.rounds();
-    let mut tick = script.start();
-    for round in 0..rounds {
-        let rest = play_round(&mut engine, script, &mut text, round, tick)?;
-        write_all(out, &text)?;
-        if rest {
+    for round in 0..script.rounds() {
+        if play_round(&mut engine, script, &mut text, out, round, tick)? {
             return Ok(());
         }
-        text.clear();
         tick = tick.wrapping_add(script.step());
     }
-    write_end(&mut text, false, rounds - 1)?;
-    write_all(out, &text)?;
-    Ok(())
+    unreachable!()
 }
 
-/// Makes one turn, and appends its round to the text, and the end line where the run has come to
-/// rest. Says whether it has.
-fn play_round(
+/// Makes a round and writes its text behind what is in the buffer, with the end line where the run is over
+/// then. Says whether it is.
+fn play_round<O: Sink>(
+    engine: &mut Engine,
+    script: &Script,
+    text: &mut Vec<u8>,
+    out: &mut O,
+    round: u32,
+    tick: u32,
+) -> Result<bool, PlayError>
+    requires { (before : Option (List ℕ)) × Underway script.now before (O.held out.old) text.old.items round tick engine.old }
+    ensures over { IfOk result (λ over. (before : Option (List ℕ)) → Underway script.now before (O.held out.old) text.old.items round tick engine.old → over ≡ true → Wrote before (O.held out.new) script.now) }
+    ensures more { IfOk result (λ over. (before : Option (List ℕ)) → Underway script.now before (O.held out.old) text.old.items round tick engine.old → over ≡ false → Underway script.now before (O.held out.new) text.new.items (round + 1) ((tick + script.now.step) % 2 ^ 32) engine.new) }
+    ensures err { OnErr result ((before : Option (List ℕ)) → Underway script.now before (O.held out.old) text.old.items round tick engine.old → WroteFront before (O.held out.new) script.now) }
+    ensures fault { IfErr result (λ e. e ≡ PlayError.Fault → Rose (O.faults out.old) (O.faults out.new)) }
+    ensures counted { O.faults out.old ≤ O.faults out.new }
+{
+    let over = add_round(engine, script, text, round, tick)?;
+    write_all(out, text)?;
+    text.clear();
+    Ok(over)
+}
+
+/// Makes a round and appends its text, and the end line where the run is over then. Says whether it is.
+fn add_round(
     engine: &mut Engine,
     script: &Script,
     text: &mut Vec<u8>,
     round: u32,
     tick: u32,
 ) -> Result<bool, AllocError>
-    requires form { IsTrue (is_first_form script.now) }
-    requires ready { Ready script.now (world_of engine.old) (2 ^ 32) }
-    requires clear { engine.old.log.entries ≡ [] }
-    requires room { 20 ≤ engine.old.log.room }
-    ensures rest { IfOk result (λ rest. rest ≡ is_quiet (turned script.now (world_of engine.old))) }
-    ensures text { IfOk result (λ rest. text.new.items ≡ text.old.items
-        ++ (round_text round tick (turned script.now (world_of engine.old)).entries
-        ++ (if rest then end_text true round else []))) }
-    ensures world { OnOk result (world_of engine.new ≡ cleared (turned script.now (world_of engine.old))) }
-    ensures room { OnOk result (engine.new.log.room ≡ engine.old.log.room) }
+    requires { (rounds : List Round) × Plays script.now rounds round tick engine.old }
+    ensures added { IfOk result (λ over. Adds script.now round tick engine.old engine.new text.old.items text.new.items over) }
+    ensures sound { IsTrue (is_sound script.now) }
 {
-    engine.turn(script);
+    let rounds = script.rounds();
+    engine.round(script, round, tick)?;
     write_round(text, round, tick, engine.entries())?;
-    let rest = engine.is_quiet(script);
-    if rest {
-        write_end(text, true, round)?;
+    let rest = engine.is_at_rest(script, round);
+    let over = is_over(rest, round, rounds);
+    if over {
+        write_end(text, rest, round)?;
     }
-    engine.clear();
-    Ok(rest)
+    Ok(over)
+}
+
+/// Whether a run of at most this many rounds is over after a round, at rest or not.
+fn is_over(rest: bool, round: u32, rounds: u32) -> bool
+    requires { round < rounds }
+    ensures { result ≡ rest || (round + 1 == rounds) }
+{
+    rest || round + 1 == rounds
 }

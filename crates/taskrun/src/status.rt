@@ -11,8 +11,7 @@ use transcript::TextFault;
 pub enum Status {
     /// 0: all was written.
     Done,
-    /// 1: the input is no script. Line 0 and kind 0 stand for a valid script of a form that is not
-    /// run yet.
+    /// 1: the input is no script.
     ScriptRefused(ScriptFault),
     /// 2: the words are no command.
     Usage,

@@ -1,5 +1,6 @@
 //! The program over streams in memory.
 
+use crate::worked::*;
 use crate::{Status, answer, taskrun};
 use sched_base::{MemSink, MemSource, OpenGate, StdSink, StdSource};
 use std::alloc::{AllocError, Global};
@@ -7,25 +8,6 @@ use std::env::Args;
 use std::io::{self, ErrorKind};
 use std::process::ExitCode;
 use std::test::Fail;
-
-const FIRST: &str =
-    "taskscript 1\nworkers 1\ndepth 200\nstart 0\nstep 1\nrounds 5\ntask a home 0 nice 0 rows 1 init\nrow a 0 kill a next 0\nend\n";
-
-const FIRST_TEXT: &str =
-    "taskrun 1\nround 0 tick 0\nc0 get 0 0000000000000001\nc0 take 0 queued init live 0\nc0 kill 0 runs - live 1\nc0 drop 0 runs - killed 1\nc0 retire 0 queued - killed 1\nend rest 0\n";
-
-const EMPTY: &str = "taskscript 1\nworkers 1\ndepth 200\nstart 0\nstep 1\nrounds 5\nend\n";
-
-const EMPTY_TEXT: &str = "taskrun 1\nround 0 tick 0\nend rest 0\n";
-
-const SELF_WAKE: &str =
-    "taskscript 1\nworkers 1\ndepth 200\nstart 1\nstep 1\nrounds 3\ntask a home 0 nice 0 rows 1 init\nrow a 0 wake a other next 0\nend\n";
-
-const SELF_WAKE_TEXT: &str =
-    "taskrun 1\nround 0 tick 1\nc0 get 0 0000000000000001\nc0 take 0 queued init live 0\nc0 wake 0 other runs - live 1\nc0 drop 0 runs other live 1\nround 1 tick 2\nc0 get 0 0000000000000000\nc0 take 0 queued other live 1\nc0 wake 0 other runs - live 2\nc0 drop 0 runs other live 2\nround 2 tick 3\nc0 get 0 0000000000000000\nc0 take 0 queued other live 2\nc0 wake 0 other runs - live 3\nc0 drop 0 runs other live 3\nend limit 2\n";
-
-const TIMER: &str =
-    "taskscript 1\nworkers 1\ndepth 200\nstart 4294967290\nstep 4\nrounds 10\ntask a home 0 nice 0 rows 2 init\nrow a 0 after 10 next 1\nrow a 1 kill a next 1\nend\n";
 
 /// How the streams of a run give and take bytes.
 #[derive(Clone, Copy)]
@@ -112,7 +94,14 @@ fn answers_worked_scripts(rt: HostRuntime) -> Result<(), Fail> {
         ("run", FIRST, 0, FIRST_TEXT),
         ("run", EMPTY, 0, EMPTY_TEXT),
         ("run", SELF_WAKE, 0, SELF_WAKE_TEXT),
-        ("run", TIMER, 1, ""),
+        ("run", TIMER, 0, TIMER_TEXT),
+        ("run", CHECK, 0, CHECK_TEXT),
+        ("run", TOGETHER, 0, TOGETHER_TEXT),
+        ("run", APART, 0, APART_TEXT),
+        ("run", SHARED, 0, SHARED_TEXT),
+        ("run", DRAWN_AGAIN, 0, DRAWN_AGAIN_TEXT),
+        ("run", PUSHED_AGAIN, 0, PUSHED_AGAIN_TEXT),
+        ("run", MOVED_TIMERS, 0, MOVED_TIMERS_TEXT),
         ("run", "", 1, ""),
         ("", FIRST, 2, ""),
         ("gen 0 1", FIRST, 2, ""),
@@ -244,5 +233,89 @@ fn carries_bytes_over_std(rt: HostRuntime) -> Result<(), Fail> {
     assert_eq!(rt; text.as_slice(), SELF_WAKE_TEXT.as_bytes());
     assert_eq!(rt; full, Status::WriteFault);
     assert!(rt; is_front(&small, SELF_WAKE_TEXT));
+    Ok(())
+}
+
+/// A ring of 100 tasks of three workers that pass a message round, and then each kills itself.
+fn ring(alloc: Global) -> Result<String, AllocError> {
+    let mut script = String::from_str(
+        alloc,
+        "taskscript 1\nworkers 3\ndepth 7\nstart 0\nstep 1\nrounds 400\n",
+    )?;
+    for i in 0..100i32 {
+        let init = if i == 0 { " init" } else { "" };
+        let line = format!(in alloc;
+            "task t{i} home {} nice {} rows 2{init}\n",
+            i % 3,
+            i % 5 - 2
+        )?;
+        script.push_str(line.as_str())?;
+    }
+    for i in 0..100 {
+        let next = (i + 1) % 100;
+        let rows = format!(in alloc;
+            "row t{i} 0 wake t{next} msg next 1\nrow t{i} 1 kill t{i} next 1\n"
+        )?;
+        script.push_str(rows.as_str())?;
+    }
+    script.push_str("end\n")?;
+    Ok(script)
+}
+
+/// Three groups of tasks of two workers, more than may run in a turn, which wake and kill each other and
+/// have timers.
+fn crowd(alloc: Global) -> Result<String, AllocError> {
+    let mut script = String::from_str(
+        alloc,
+        "taskscript 1\nworkers 2\ndepth 10\nstart 4294967000\nstep 20\nrounds 40\n",
+    )?;
+    for i in 0..150i32 {
+        let line = format!(in alloc; "task t{i} home {} nice {} rows 2 init\n", i % 2, i % 9 - 4)?;
+        script.push_str(line.as_str())?;
+    }
+    for i in 0..150u32 {
+        let first = format!(in alloc;
+            "row t{i} 0 wake t{} io after {} next 1\n",
+            (i * 7 + 1) % 150,
+            i * 3 + 1
+        )?;
+        let second = format!(in alloc;
+            "row t{i} 1 kill t{} wake t{} res next 0\n",
+            (i * 11 + 3) % 150,
+            (i * 5 + 2) % 150
+        )?;
+        script.push_str(first.as_str())?;
+        script.push_str(second.as_str())?;
+    }
+    script.push_str("event 3 wake t5 signal\nevent 9 kill t77\nend\n")?;
+    Ok(script)
+}
+
+/// A number that tells texts apart (FNV-1a).
+fn print_of(text: &[u8]) -> u64 {
+    let mut print: u64 = 0xcbf2_9ce4_8422_2325;
+    for byte in text {
+        print = (print ^ u64::from(*byte)).wrapping_mul(0x0100_0000_01b3);
+    }
+    print
+}
+
+// The lengths and prints are those of texts that were worked out apart from the program.
+#[test]
+fn answers_larger_scripts(rt: HostRuntime) -> Result<(), Fail> {
+    let streams = Streams {
+        room: 1_000_000,
+        ..CALM
+    };
+    let ring = ring(rt.alloc())?;
+    let outcome = run(rt.alloc(), "run", ring.as_str(), streams)?;
+    assert_eq!(rt; outcome.code, 0);
+    assert_eq!(rt; outcome.text.len(), 15714);
+    assert_eq!(rt; print_of(&outcome.text), 0x26d4c570e206cbc1);
+    let crowd = crowd(rt.alloc())?;
+    let outcome = run(rt.alloc(), "run", crowd.as_str(), streams)?;
+    assert_eq!(rt; outcome.code, 0);
+    assert_eq!(rt; outcome.text.len(), 55156);
+    assert_eq!(rt; print_of(&outcome.text), 0xd00bfba51064a0d5);
     Ok(())
 }

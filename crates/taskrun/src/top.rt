@@ -4,22 +4,17 @@ ghost use Rattle.std.specs.Prelude.{◌≡◌, ℕ, ◌≤◌, Bool, true, false
 ghost use Rattle.std.specs.String.{string_bytes};
 ghost use Rattle.sched_base.specs.Streams.{Rose};
 ghost use Rattle.step_tables.specs.Judging.{script_of};
-ghost use Rattle.taskrun.specs.FirstForm.{is_first_form};
 ghost use Rattle.taskrun.specs.Answers.{is_run, Answers, Expected, IsRunning, IsUnwritten, IsOfRun, ReadsAtMost};
 
-use crate::first_form::is_first_form;
 use crate::pieces::{ReadError, read_all};
 use crate::rounds::{PlayError, play_out};
 use crate::status::Status;
 use sched_base::{Gate, Sink, Source};
 use std::alloc::Global;
-use step_tables::{Script, ScriptError, ScriptFault};
+use step_tables::{Script, ScriptError};
 
 /// One byte more than a script may have: what is read of a source at most.
 const MOST_BYTES: usize = 4_194_305;
-
-/// The fault of a valid script whose form is not run yet.
-const OTHER_FORM: ScriptFault = ScriptFault { line: 0, kind: 0 };
 
 /// Whether the words are the one word `run`.
 fn is_run(words: &[String]) -> bool
@@ -89,7 +84,7 @@ fn run_bytes<O: Sink>(alloc: Global, bytes: &[u8], out: &mut O) -> Status
     }
 }
 
-/// Runs a script, if it is of the form that is run.
+/// Runs a script.
 fn run_script<O: Sink>(alloc: Global, script: &Script, out: &mut O) -> Status
     ensures answers { Answers (Ok script.now) (O.held out.old) (O.held out.new) result }
     ensures write_fault { result ≡ Status.WriteFault → Rose (O.faults out.old) (O.faults out.new) }
@@ -97,9 +92,6 @@ fn run_script<O: Sink>(alloc: Global, script: &Script, out: &mut O) -> Status
     ensures unwritten { IsUnwritten result → out.new ≡ out.old }
     ensures running { IsRunning result }
 {
-    if !is_first_form(script) {
-        return Status::ScriptRefused(OTHER_FORM);
-    }
     match play_out(alloc, script, out) {
         Ok(()) => Status::Done,
         Err(PlayError::Fault) => Status::WriteFault,

@@ -1,17 +1,10 @@
-use Rattle.std.proofs.Common.{◌≡◌, ◌-◌, ◌≤◌, ◌++◌, []}
-use Rattle.run_texts.specs.RunText.{text_of}
-use Rattle.taskrun.specs.Play.{play}
-use Rattle.taskrun.specs.Engine.{world_of, Ready}
-use Rattle.taskrun.proofs.EngineTexts.{text_from}
-use Rattle.taskrun.proofs.EngineWrites.{Written}
+use Rattle.std.proofs.Common.{◌≤◌}
+use Rattle.taskrun.specs.Rounds.{Underway}
 use Rattle.taskrun.proofs.rounds.play_out.Given as goal
 
--- the engine is between two turns, and what is written, the buffer and the rounds from here on are the whole text
+-- the rounds so far are made and written, but for what is in the buffer
 abbrev pub invariant-loop-round : goal.invariant-loop-round
 invariant-loop-round g l = record {
-  ready : Ready l.script (world_of l.engine) l.round;
-  clear : l.engine.log.entries ≡ [];
-  room : 20 ≤ l.engine.log.room;
-  written : Written (g.O.Sink.held l.fn.out) (g.O.Sink.held l.out) (l.text.items ++ text_from l.round (l.script.rounds - l.round) l.script l.tick (world_of l.engine)) (text_of (play l.script));
+  under : Underway l.script (g.O.Sink.held l.fn.out) (g.O.Sink.held l.out) l.text.items l.round l.tick l.engine;
   counted : g.O.Sink.faults l.fn.out ≤ g.O.Sink.faults l.out;
 }

@@ -1,23 +1,30 @@
-use Rattle.std.proofs.Common.{◌+◌, ◌^◌, ap, sym, ◌∙◌, subst, arith}
-use Rattle.std.specs.List.{All}
-use Rattle.transcript.specs.HasText.{HasTextEntry}
-use Rattle.taskrun.specs.Play.{World}
-use Rattle.taskrun.specs.Engine.{world_of, Ready}
-use Rattle.taskrun.proofs.EngineForm.{formed}
-use Rattle.taskrun.proofs.EngineTurns.{ready_turned, ready_up}
-use Rattle.taskrun.proofs.EngineTexts.{texts_turned, texts_clear}
+use Rattle.std.proofs.Common.{◌≡◌, true, false, Option, List, ℕ, ◌+◌, ◌%◌, ◌^◌, subst, sym}
+use Rattle.sched_base.specs.Streams.{Appends, AppendsFront}
+use Rattle.taskrun.specs.Answers.{WroteFront}
+use Rattle.taskrun.specs.Rounds.{Adds, Underway}
+use Rattle.taskrun.proofs.Played.{after_error, all_written, next_round, cut_short, stopped}
 use Rattle.taskrun.proofs.rounds.play_round.Goals as goal
 
-pub write_round-requires : goal.write_round-requires
-write_round-requires c =
-    let s = c.args.script.now in
-    let w = world_of c.args.engine.now in
-    let texts = texts_turned s w (2 ^ 32) (formed s c.turn.ensures.sound c.requires.form) c.requires.ready (omega arith) (texts_clear w c.requires.clear) in
-    subst (λ es. All HasTextEntry es) (sym (c.entries.ensures ∙ ap (λ (w : World). w.entries) c.turn.ensures.world)) texts
+pub returns-in_err-over-clause-err : goal.returns-in_err-over-clause-err
+returns-in_err-over-clause-err g c =
+    let all : (before : Option (List ℕ)) → Underway c.args.script.now before (g.O.Sink.held c.args.out.now) c.args.text.now.items c.args.round c.args.tick c.args.engine.now → WroteFront before (g.O.Sink.held c.args.out.now) c.args.script.now =
+    λ before under. stopped c.args.script.now before _ _ _ _ _ c.add_round.ensures.sound under in
+    after_error _ _ all
 
-pub is_quiet-rest-requires : goal.is_quiet-rest-requires
-is_quiet-rest-requires c =
-    let s = c.args.script.now in
-    let w = world_of c.args.engine.now in
-    let ready = ready_turned s w (2 ^ 32) (formed s c.turn.ensures.sound c.requires.form) c.requires.ready (omega arith) in
-    ready_up s _ (2 ^ 32 + 1) (2 ^ 40) (omega arith) (subst (λ w. Ready s w (2 ^ 32 + 1)) (sym c.turn.ensures.world) ready)
+pub returns-in_err-write_all-clause-err : goal.returns-in_err-write_all-clause-err
+returns-in_err-write_all-clause-err g c =
+    let all : (before : Option (List ℕ)) → Underway c.args.script.now before (g.O.Sink.held c.args.out.now) c.args.text.now.items c.args.round c.args.tick c.args.engine.now → WroteFront before (g.O.Sink.held c.write_all.new.out) c.args.script.now =
+    λ before under. cut_short c.args.script.now before _ _ _ c.add_round.new.text.items _ _ _ c.add_round.new.engine c.in_ok-over.over c.add_round.ensures.sound under c.in_ok-over.ensures.added
+    (subst (λ t. AppendsFront (g.O.Sink.held c.args.out.now) (g.O.Sink.held c.write_all.new.out) t) c.deref.ensures.value c.in_err-write_all.ensures.err) in
+    after_error _ _ all
+
+pub returns-clause-over : goal.returns-clause-over
+returns-clause-over g c = λ before under over.
+    all_written c.args.script.now before _ _ _ c.add_round.new.text.items _ _ _ c.add_round.new.engine c.add_round.ensures.sound under (subst (λ b. Adds c.args.script.now c.args.round c.args.tick c.args.engine.now c.add_round.new.engine c.args.text.now.items c.add_round.new.text.items b) over c.in_ok-over.ensures.added)
+    (subst (λ t. Appends (g.O.Sink.held c.args.out.now) (g.O.Sink.held c.write_all.new.out) t) c.deref.ensures.value c.in_ok-write_all.ensures.ok)
+
+pub returns-clause-more : goal.returns-clause-more
+returns-clause-more g c = λ before under over.
+    subst (λ t. Underway c.args.script.now before (g.O.Sink.held c.write_all.new.out) t (c.args.round + 1) ((c.args.tick + c.args.script.now.step) % 2 ^ 32) c.add_round.new.engine) (sym c.clear.ensures.items)
+    (next_round c.args.script.now before _ _ _ c.add_round.new.text.items _ _ _ c.add_round.new.engine c.add_round.ensures.sound under (subst (λ b. Adds c.args.script.now c.args.round c.args.tick c.args.engine.now c.add_round.new.engine c.args.text.now.items c.add_round.new.text.items b) over c.in_ok-over.ensures.added)
+    (subst (λ t. Appends (g.O.Sink.held c.args.out.now) (g.O.Sink.held c.write_all.new.out) t) c.deref.ensures.value c.in_ok-write_all.ensures.ok))
