@@ -1,7 +1,8 @@
 -- Which tasks a call is about.
-use Rattle.std.proofs.Common.{◌≡◌, ◌≢◌, ℕ, true, false, refl, arith, eq-eqb, ne_eqb, ◌<◌, length, IsTrue}
+use Rattle.std.proofs.Common.{◌≡◌, ◌≢◌, ℕ, true, false, refl, arith, eq-eqb, ne_eqb, ◌<◌, ◌≤◌, ◌*◌, length, IsTrue}
 use Rattle.std.proofs.lemmas.Bool.Decides.{nat_tests}
 use Rattle.sched_base.specs.declared.names.CallerId.{CallerId}
+use Rattle.sched_base.specs.declared.names.TaskId.{TaskId}
 use Rattle.task_machine.specs.declared.calls.Call.{Call}
 use Rattle.task_machine.specs.declared.calls.Call.TheVariants as calls
 use Rattle.task_machine.specs.Step.{State, subject, is_about, is_named}
@@ -33,3 +34,9 @@ is_about-other i (calls.Retire j) h ne = ne_eqb i j.0 ne
 -- what a named call names is there
 pub is_named-task : (s : State) (k : CallerId) (c : Call) → IsTrue (is_named s k c) → subject c < length s.tasks
 is_named-task s k c h = grind (arith, nat_tests)
+
+pub is_named-get : (s : State) (k : CallerId) (g : ℕ) → IsTrue (is_named s k (calls.Get g)) → (k.0 < s.workers) × (64 * g < length s.tasks)
+is_named-get s k g h = grind (arith, nat_tests)
+
+pub is_named-post : (s : State) (k : CallerId) (i : TaskId) (b : ℕ) → IsTrue (is_named s k (calls.Post i b)) → (b ≤ s.workers) × (i.0 < length s.tasks)
+is_named-post s k i b h = grind (arith, nat_tests)

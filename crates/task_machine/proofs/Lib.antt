@@ -3,6 +3,7 @@ pub mod After
 pub mod Events
 pub mod Histories
 pub mod Lists
+pub mod Marks
 pub mod Own
 pub mod Reasons
 pub mod Replay

@@ -1,14 +1,16 @@
 -- The list of tasks after a call.
-use Rattle.std.proofs.Common.{◌≡◌, ◌≢◌, ℕ, zero, suc, ◌+◌, ◌*◌, ◌/◌, ◌<◌, ◌≤◌, inl, inr, List, [], ◌∷◌, length, get_or, set, refl, sym, ap, ◌∙◌, arith, ne_eqb, min}
+use Rattle.std.proofs.Common.{◌≡◌, ◌≢◌, ℕ, zero, suc, ◌+◌, ◌*◌, ◌/◌, ◌<◌, ◌≤◌, inl, inr, List, [], ◌∷◌, length, get_or, set, refl, sym, ap, subst, ◌∙◌, arith, ne_eqb, min}
 use Rattle.std.proofs.lemmas.Bool.{cases_eq, cases_lt}
 use Rattle.std.proofs.lemmas.List.{same_lists, get_or_default, get_or-set_same, get_or-set_other}
 use Rattle.std.proofs.Math.ListN.{length-set}
 use Rattle.sched_base.specs.declared.names.CallerId.{CallerId}
+use Rattle.sched_base.specs.declared.names.TaskId.{TaskId}
+use Rattle.task_machine.specs.declared.task.Place.TheVariants as places
 use Rattle.task_machine.specs.declared.task.TaskState.{TaskState}
 use Rattle.task_machine.specs.declared.calls.Call.{Call}
 use Rattle.task_machine.specs.declared.calls.Call.TheVariants as calls
-use Rattle.task_machine.specs.Task.{resting}
-use Rattle.task_machine.specs.Step.{each, moved, changed, subject}
+use Rattle.task_machine.specs.Task.{resting, put}
+use Rattle.task_machine.specs.Step.{State, task_at, put_task, after, each, moved, changed, subject}
 use Rattle.task_machine.proofs.About.{NoGet, is_about-subject, is_about-other}
 
 pub length-each : (f : ℕ → TaskState → TaskState) (n : ℕ) (ts : List TaskState) → length (each f n ts) ≡ length ts
@@ -52,3 +54,15 @@ each-from_get k g ts us i l done left end =
       | inl before ↦ done j before
       | inr le ↦ left j le ∙ sym (get_outside k g j (get_or ts j resting) (omega arith))
     ]))
+
+-- a post puts its task into the box
+pub after_post : (s : State) (k : CallerId) (i : TaskId) (b : ℕ) → i.0 < length s.tasks → put_task s i.0 (put (places.Boxed b) (task_at s i.0)) ≡ after s k (calls.Post i b)
+after_post s k i b within =
+    ap (λ us. record { workers = s.workers; tasks = us }) (each-from_call k (calls.Post i b) s.tasks (put (places.Boxed b) (task_at s i.0)) (λ g e. no_post g e) within (λ d. ap (put (places.Boxed b)) (get_or_default s.tasks i.0 resting d within)))
+  where
+    no_post : (g : ℕ) → calls.Post i b ≢ calls.Get g
+    no_post g e = subst IsPost e (record {})
+      where
+        IsPost : Call → Type 0
+        IsPost (calls.Post j x) = Unit {0}
+        IsPost c = ⊥

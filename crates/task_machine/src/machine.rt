@@ -1,8 +1,9 @@
 //! The machine: the states of all tasks, and one call after another.
 
-ghost use Rattle.std.specs.Prelude.{◌≡◌, ◌<◌, ◌≤◌, ◌*◌, length, replicate, IfOk, IfErr, OnOk, OnErr, IsTrue};
+ghost use Rattle.std.specs.Prelude.{◌≡◌, ◌<◌, ◌≤◌, ◌+◌, ◌*◌, true, length, replicate, IfOk, IfErr, OnOk, OnErr, IsTrue};
 ghost use Rattle.task_machine.specs.Task.{resting, seated, seen_of, put};
 ghost use Rattle.task_machine.specs.Step.{State, task_at, put_task, subject, is_named, fits, IsReply, after, changed, moved, each, IsBox, IsBoxIn, AllRoom, Step, Roomy};
+ghost use Rattle.task_machine.specs.Marks.{groups, mark_at, FillsNoBox};
 ghost use Rattle.task_machine.specs.Refusal.{Refused};
 ghost use Rattle.task_machine.specs.declared.task.Place.TheVariants as places;
 ghost use Rattle.task_machine.specs.declared.calls.Call.TheVariants as calls;
@@ -23,17 +24,20 @@ const GROUP: usize = 64;
 pub struct Machine {
     workers: u32,
     tasks: Vec<TaskState>,
+    /// For each group of each box whether a task may be in it: an empty one is not searched.
+    marks: Vec<bool>,
 }
 
 impl Model for Machine {
     ghost use Rattle.std.specs.Prelude.{◌≤◌, length};
     ghost use Rattle.task_machine.specs.Step.{State};
+    ghost use Rattle.task_machine.specs.Marks.{AreMarked};
 
     ghost Value = { State };
 
     ghost view = { λ m. record { workers = m.workers; tasks = m.tasks.items } };
 
-    ghost invariant = { λ m. (m.workers ≤ 64) × (length m.tasks.items ≤ 65536) };
+    ghost invariant = { λ m. (m.workers ≤ 64) × (length m.tasks.items ≤ 65536) × AreMarked m.workers m.tasks.items m.marks.items };
 }
 
 impl Machine {
@@ -44,11 +48,16 @@ impl Machine {
         requires few_workers { workers ≤ 64 }
         ensures { IfOk result (λ m. m ≡ record { workers = workers; tasks = replicate tasks resting }) }
     {
+        let count = tasks as usize;
+        let boxes = workers as usize + 1;
         let mut states = Vec::new(alloc);
-        states.resize(tasks as usize, TaskState::RESTING)?;
+        states.resize(count, TaskState::RESTING)?;
+        let mut marks = Vec::new(alloc);
+        marks.resize(boxes * count.div_ceil(GROUP), false)?;
         Ok(Machine {
             workers,
             tasks: states,
+            marks,
         })
     }
 
@@ -60,9 +69,11 @@ impl Machine {
         requires untaken { (task_at self.old id.0).takes ≡ 0 }
         ensures { self.new ≡ put_task self.old id.0 (seated boxno (task_at self.old id.0)) }
     {
+        let place = self.mark_place(boxno, id.0 / GROUP as u32);
         let task = &mut self.tasks[id.0 as usize];
         task.post(boxno);
         task.pending = Reasons::INIT;
+        self.marks[place] = true;
     }
 
     /// Moves a task from the shared box into a worker's box.
@@ -72,8 +83,7 @@ impl Machine {
         requires shared { (task_at self.old id.0).place ≡ places.Boxed self.old.workers }
         ensures { self.new ≡ put_task self.old id.0 (put (places.Boxed worker) (task_at self.old id.0)) }
     {
-        let task = &mut self.tasks[id.0 as usize];
-        task.post(worker);
+        self.put(id, worker);
     }
 
     /// A machine in the same state.
@@ -83,6 +93,7 @@ impl Machine {
         Ok(Machine {
             workers: self.workers,
             tasks: self.tasks.clone()?,
+            marks: self.marks.clone()?,
         })
     }
 
@@ -108,7 +119,32 @@ impl Machine {
         requires box_exists { boxno ≤ self.now.workers }
         ensures { IsBox self.now boxno group result }
     {
-        group_word(self.tasks.as_slice(), boxno, group)
+        if self.marks[self.mark_place(boxno, group)] {
+            group_word(self.tasks.as_slice(), boxno, group)
+        } else {
+            0
+        }
+    }
+
+    /// Where the mark of a group of a box stands.
+    fn mark_place(&self, boxno: u32, group: u32) -> usize
+        requires exists { 64 * group < length self.now.tasks }
+        requires box_exists { boxno ≤ self.now.workers }
+        ensures place { result ≡ mark_at (length self.now.tasks) boxno group }
+        ensures within { result < (self.now.workers + 1) * groups (length self.now.tasks) }
+    {
+        boxno as usize * self.tasks.len().div_ceil(GROUP) + group as usize
+    }
+
+    /// Puts a task into a box.
+    fn put(&mut self, id: TaskId, boxno: u32)
+        requires exists { id.0 < length self.old.tasks }
+        requires box_exists { boxno ≤ self.old.workers }
+        ensures { self.new ≡ put_task self.old id.0 (put (places.Boxed boxno) (task_at self.old id.0)) }
+    {
+        let place = self.mark_place(boxno, id.0 / GROUP as u32);
+        self.tasks[id.0 as usize].post(boxno);
+        self.marks[place] = true;
     }
 
     /// Makes one call, if the machine allows the entry: the names are there, the task is where it
@@ -137,6 +173,19 @@ impl Machine {
         }
         self.change(caller, &call);
         Ok(())
+    }
+
+    /// Makes one call that the machine allows, and answers its reply.
+    pub fn make(&mut self, caller: CallerId, call: &Call) -> Reply
+        requires named { is_named self.old caller call.now ≡ true }
+        requires fits { fits self.old caller call.now ≡ true }
+        requires room { Roomy call.now (task_at self.old (subject call.now)) }
+        ensures reply { IsReply self.old caller call.now result }
+        ensures state { self.new ≡ after self.old caller call.now }
+    {
+        let reply = self.reply(caller, call);
+        self.change(caller, call);
+        reply
     }
 
     /// Whether all that the caller names in a call is there.
@@ -198,12 +247,39 @@ impl Machine {
         requires room { Roomy call.now (task_at self.old (subject call.now)) }
         ensures { self.new ≡ after self.old caller call.now }
     {
-        if let Call::Get(group) = *call {
-            get_group(self.tasks.as_mut_slice(), caller, group);
-            return;
+        match *call {
+            Call::Get(group) => self.get(caller, group),
+            Call::Post(id, boxno) => self.put(id, boxno),
+            Call::Wake(..)
+            | Call::Kill(_)
+            | Call::Draw(_)
+            | Call::Take(_)
+            | Call::DropRun(_)
+            | Call::Retire(_) => self.change_one(caller, call),
         }
+    }
+
+    /// Makes the change of a call that puts no task into a box and names one task.
+    fn change_one(&mut self, caller: CallerId, call: &Call)
+        requires named { IsTrue (is_named self.old caller call.now) }
+        requires room { Roomy call.now (task_at self.old (subject call.now)) }
+        requires fills { FillsNoBox call.now }
+        ensures { self.new ≡ after self.old caller call.now }
+    {
         let task = &mut self.tasks[call.subject()];
         change_task(task, caller, call);
+    }
+
+    /// Moves the tasks of a group that are in the caller's box into its hands.
+    fn get(&mut self, caller: CallerId, group: u32)
+        requires named { IsTrue (is_named self.old caller (calls.Get group)) }
+        ensures { self.new ≡ after self.old caller (calls.Get group) }
+    {
+        let place = self.mark_place(caller.0, group);
+        if self.marks[place] {
+            get_group(self.tasks.as_mut_slice(), caller, group);
+            self.marks[place] = false;
+        }
     }
 }
 

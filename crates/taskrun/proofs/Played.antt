@@ -199,8 +199,9 @@ goes_on s q new e = by_test (is_at_rest s q (standing_of s new)) (q + 1 == s.rou
         differs : (q + 1 == s.rounds) ≡ false → q + 1 ≢ s.rounds
         differs f = grind (arith, nat_tests)
 
-pub next_round : (s : Script) (before now done : Option (List ℕ)) (buffer after : List ℕ) (q U : ℕ) (old new : Engine) → IsTrue (is_sound s) → Underway s before now buffer q U old → Adds s q U old new buffer after false → Appends now done after → Underway s before done [] (q + 1) ((U + s.step) % 2 ^ 32) new
-next_round s before now done buffer after q U old new sound h adds appended =
+-- a round more, whose text is in the buffer
+pub next_round : (s : Script) (before now : Option (List ℕ)) (buffer after : List ℕ) (q U : ℕ) (old new : Engine) → IsTrue (is_sound s) → Underway s before now buffer q U old → Adds s q U old new buffer after false → Underway s before now after (q + 1) ((U + s.step) % 2 ^ 32) new
+next_round s before now buffer after q U old new sound h adds =
     let st = standing_of s new in
     let on = goes_on s q new adds.last in
     let passes = passes_more s 0 s.start (opening s) h.rounds q U (standing_of s old) (made U new) st h.plays.passes adds.round on.0 on.1 in
@@ -210,10 +211,20 @@ next_round s before now done buffer after q U old new sound h adds appended =
         passes = subst (λ (n : ℕ). Passes s 0 s.start (opening s) (h.rounds ++ made U new ∷ []) (q + 1) n st) (step_on s q U st sound) passes;
         ready = adds.ready;
       };
-      written = h.written ++ after;
-      appended = appends_more before now done h.written after h.appended appended;
-      text = append-nil (h.written ++ after) ∙ joined s before now buffer after q U old new false h adds ∙ append-nil _;
+      written = h.written;
+      appended = h.appended;
+      text = joined s before now buffer after q U old new false h adds ∙ append-nil _;
     }
+
+-- the buffer is written out
+pub flushed : (s : Script) (before now done : Option (List ℕ)) (buffer : List ℕ) (q U : ℕ) (e : Engine) → Underway s before now buffer q U e → Appends now done buffer → Underway s before done [] q U e
+flushed s before now done buffer q U e h appended = record {
+  rounds = h.rounds;
+  plays = h.plays;
+  written = h.written ++ buffer;
+  appended = appends_more before now done h.written buffer h.appended appended;
+  text = append-nil (h.written ++ buffer) ∙ h.text;
+}
 
 -- some first part of what was added is written
 pub cut_short : (s : Script) (before now done : Option (List ℕ)) (buffer after : List ℕ) (q U : ℕ) (old new : Engine) (over : Bool) → IsTrue (is_sound s) → Underway s before now buffer q U old → Adds s q U old new buffer after over → AppendsFront now done after → WroteFront before done s

@@ -15,6 +15,9 @@ use step_tables::Script;
 use thread_loop::Engine;
 use transcript::{write_end, write_head, write_round};
 
+/// From how many bytes on the text of rounds is written out.
+const FULL: usize = 65_536;
+
 /// Why a run was not written whole.
 #[derive(Clone, Copy, Debug, PartialEq, Eq)]
 pub enum PlayError {
@@ -61,8 +64,8 @@ pub fn play_out<O: Sink>(alloc: Global, script: &Script, out: &mut O) -> Result<
     unreachable!()
 }
 
-/// Makes a round and writes its text behind what is in the buffer, with the end line where the run is over
-/// then. Says whether it is.
+/// Makes a round and puts its text behind what is in the buffer, with the end line where the run is over
+/// then. Writes the buffer out where it is full or the run is over. Says whether it is.
 fn play_round<O: Sink>(
     engine: &mut Engine,
     script: &Script,
@@ -79,8 +82,10 @@ fn play_round<O: Sink>(
     ensures counted { O.faults out.old ≤ O.faults out.new }
 {
     let over = add_round(engine, script, text, round, tick)?;
-    write_all(out, text)?;
-    text.clear();
+    if over || FULL <= text.len() {
+        write_all(out, text)?;
+        text.clear();
+    }
     Ok(over)
 }
 

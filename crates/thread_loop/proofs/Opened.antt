@@ -267,19 +267,7 @@ books_more s n ws new w h book is =
 
 -- the events come by rising rounds
 pub events_rise : (s : Script) → IsTrue (is_sound s) → rising_below 0 s.rounds s.events ≡ true
-unfolding is_sound
-events_rise s h =
-    let v = both (s.version == 1) _ h in
-    let a = both (within 1 16 s.workers) _ v.1 in
-    let b = both (within 1 1000 s.depth) _ a.1 in
-    let c = both (leb s.start 4294967295) _ b.1 in
-    let d = both (within 1 1048576 s.step) _ c.1 in
-    let e = both (within 1 100000 s.rounds) _ d.1 in
-    let f = both (leb (length s.tasks) 4096) _ e.1 in
-    let g = both (list_all (is_sound_task s.workers (length s.tasks)) s.tasks) _ f.1 in
-    let k = both _ _ g.1 in
-    let l = both (leb (length s.events) 65536) _ k.1 in
-    (both (list_all (λ (e : Event). is_sound_action (length s.tasks) e.action) s.events) _ l.1).1
+events_rise s h = (sound_parts s h).rising
 
 pub events_first : (s : Script) → IsTrue (is_sound s) → AtEvents s 0 0
 events_first s h = record { within = omega arith; passed = λ q le. refl; ahead = events_rise s h }

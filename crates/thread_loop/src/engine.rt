@@ -22,7 +22,7 @@ use task_machine::{Entry, Log};
 #[derive(Drop)]
 pub struct Engine {
     shop: Shop,
-    workers: Vec<Worker>,
+    pub(crate) workers: Vec<Worker>,
     /// The shared tasks, by nice and then by number.
     shared: Vec<TaskId>,
     /// How many events were made.

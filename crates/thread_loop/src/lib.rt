@@ -7,6 +7,8 @@ mod lookups;
 mod opening;
 mod queues;
 mod shop;
+#[cfg(test)]
+mod tests;
 mod turn;
 mod worker;
 

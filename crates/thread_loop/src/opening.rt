@@ -7,7 +7,7 @@ ghost use Rattle.run_model.specs.Standing.{opening};
 ghost use Rattle.thread_loop.specs.Engines.{IsIdle, book_now};
 ghost use Rattle.thread_loop.specs.Shops.{is_shared, IsShared, HasShared};
 
-use crate::shop::home_of;
+use crate::lookups::home_of;
 use crate::worker::Worker;
 use sched_base::TaskId;
 use std::alloc::{AllocError, Global};

@@ -3,12 +3,12 @@
 ghost use Rattle.std.specs.Prelude.{◌≡◌, ℕ, false, List, [], ◌∷◌, ◌++◌, ◌+◌, ◌<◌, length, slice_index_or, replicate, true, None, Some, IfOk, OnOk, IsTrue};
 ghost use Rattle.std.specs.List.{list_all};
 ghost use Rattle.task_machine.specs.Task.{is_boxed, is_gone};
-ghost use Rattle.task_machine.specs.Step.{after, task_at, is_named, Allowed, AllRoom, reply_of};
+ghost use Rattle.task_machine.specs.Step.{after, task_at, Allowed, reply_of};
 ghost use Rattle.task_machine.specs.declared.calls.Call.TheVariants as calls;
 ghost use Rattle.run_model.specs.Book.{Book};
-ghost use Rattle.run_model.specs.Replies.{is_rest, takes_in};
+ghost use Rattle.run_model.specs.Replies.{takes_in};
 ghost use Rattle.run_model.specs.Standing.{was_drawn, is_still_at};
-ghost use Rattle.run_model.specs.Tables.{call_of, home_of, target, row_at};
+ghost use Rattle.run_model.specs.Tables.{row_at};
 ghost use Rattle.turn_steps.specs.Left.{asked, at_events, draws_now};
 ghost use Rattle.turn_steps.specs.Has.{said, caller};
 ghost use Rattle.step_tables.specs.declared.tables.Action.{Action};
@@ -17,11 +17,12 @@ ghost use Rattle.thread_loop.specs.Workers.{number_of, stage_of, TellsTakes};
 ghost use Rattle.thread_loop.specs.Engines.{IsWithin, InjectedAll, actions_all};
 ghost use Rattle.thread_loop.specs.Shops.{Opened, after_all, Making, Works, Noted, row_after, Turned, calls_in, IsServed, Injected, IsShared, HasShared};
 
+use crate::lookups::{call_of, home_of, is_rest, target};
 use crate::worker::{Body, Worker};
 use sched_base::{CallerId, TaskId};
 use std::alloc::{AllocError, Global};
-use step_tables::{Action, Event, Kind, Script};
-use task_machine::{Call, Entry, Log, Machine, Place, Reply, Seen, Stand};
+use step_tables::{Action, Event, Script};
+use task_machine::{Call, Entry, Log, Machine, Place, Reply, Seen};
 
 /// The machine, and the row of each task's next run.
 #[derive(Drop)]
@@ -49,7 +50,6 @@ impl Shop {
         call: &Call,
     ) -> Reply
         requires allowed { Allowed self.old.machine (said who call.now (reply_of self.old.machine who call.now)) }
-        requires room { AllRoom self.old.machine }
         requires rows { length self.old.rows.items ≡ length self.old.machine.tasks }
         requires tasks { length self.old.machine.tasks ≡ length script.now.tasks }
         requires spare { length log.old.entries < log.old.room }
@@ -57,32 +57,10 @@ impl Shop {
         ensures noted { Noted script.now who call.now log.old.entries self.old log.new.entries self.new }
         ensures spare { log.new.room ≡ log.old.room }
     {
-        let reply = reply_to(&self.machine, who, call);
-        self.note(log, who, call, &reply);
+        let reply = self.machine.make(who, call);
+        note(log, who, call, &reply);
         self.go_on(script, call);
         reply
-    }
-
-    /// Makes a call that has this reply, and adds it to the log.
-    fn note(&mut self, log: &mut Log, who: CallerId, call: &Call, reply: &Reply)
-        requires allowed { Allowed self.old.machine (said who call.now reply.now) }
-        requires room { AllRoom self.old.machine }
-        requires spare { length log.old.entries < log.old.room }
-        ensures entries { log.new.entries ≡ log.old.entries ++ said who call.now reply.now ∷ [] }
-        ensures machine { self.new.machine ≡ after self.old.machine who call.now }
-        ensures rows { self.new.rows ≡ self.old.rows }
-        ensures spare { log.new.room ≡ log.old.room }
-    {
-        let entry = Entry {
-            caller: who,
-            call: *call,
-            reply: *reply,
-        };
-        match self.machine.apply(&entry) {
-            Ok(()) => {}
-            Err(_) => unreachable!(),
-        }
-        log.push(entry);
     }
 
     /// Where a call takes a task, its next run has the row that comes after this one's.
@@ -337,6 +315,20 @@ impl Shop {
     }
 }
 
+/// Adds a call to a log with its reply.
+fn note(log: &mut Log, who: CallerId, call: &Call, reply: &Reply)
+    requires { length log.old.entries < log.old.room }
+    ensures entries { log.new.entries ≡ log.old.entries ++ said who call.now reply.now ∷ [] }
+    ensures spare { log.new.room ≡ log.old.room }
+{
+    let entry = Entry {
+        caller: who,
+        call: *call,
+        reply: *reply,
+    };
+    log.push(entry);
+}
+
 /// The row after this row of a task.
 fn next_row(script: &Script, id: TaskId, row: u32) -> u32
     requires { id.0 < length script.now.tasks }
@@ -347,66 +339,6 @@ fn next_row(script: &Script, id: TaskId, row: u32) -> u32
         Some(row) => row.next,
         None => 0,
     }
-}
-
-/// The machine's reply to a call.
-fn reply_to(machine: &Machine, who: CallerId, call: &Call) -> Reply
-    requires { is_named machine.now who call.now ≡ true }
-    ensures { result ≡ reply_of machine.now who call.now }
-{
-    match *call {
-        Call::Post(..) | Call::Draw(..) => Reply::Done,
-        Call::Get(group) => Reply::Group(machine.box_group(who.0, group)),
-        Call::Wake(id, _)
-        | Call::Kill(id)
-        | Call::Take(id)
-        | Call::DropRun(id)
-        | Call::Retire(id) => Reply::Task(machine.seen(id)),
-    }
-}
-
-/// The call by which an action is made.
-fn call_of(action: &Action) -> Call
-    ensures { result ≡ call_of action.now }
-{
-    match *action {
-        Action::Wake(id, reasons) => Call::Wake(id, reasons),
-        Action::Kill(id) => Call::Kill(id),
-    }
-}
-
-/// The task that an action names.
-fn target(action: &Action) -> TaskId
-    ensures { result.0 ≡ target action.now }
-{
-    match *action {
-        Action::Wake(id, _) | Action::Kill(id) => id,
-    }
-}
-
-/// The box to which a task is posted.
-pub(crate) fn home_of(script: &Script, id: TaskId) -> u32
-    requires { id.0 < length script.now.tasks }
-    ensures { result ≡ home_of script.now id.0 }
-{
-    match script.tasks()[id.0 as usize].kind {
-        Kind::Pinned { home, .. } => home,
-        Kind::Shared { .. } => script.workers(),
-        Kind::Tasklet { home, .. } => home,
-    }
-}
-
-/// Whether a call saw its task at rest.
-fn is_rest(reply: &Reply) -> bool
-    ensures { result ≡ is_rest reply.now }
-{
-    matches!(
-        *reply,
-        Reply::Task(Seen::Live {
-            stand: Stand::Rest,
-            ..
-        })
-    )
 }
 
 /// How often a task was taken, as a call saw it.

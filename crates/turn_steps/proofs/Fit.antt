@@ -9,7 +9,7 @@ use Rattle.step_tables.specs.declared.tables.Kind.TheVariants.{Pinned, Shared, T
 use Rattle.step_tables.specs.declared.tables.Row.{Row}
 use Rattle.step_tables.specs.declared.tables.Script.{Script}
 use Rattle.step_tables.specs.declared.tables.TaskDef.{TaskDef}
-use Rattle.step_tables.specs.Sound.{within, is_sound_action, is_sound_expiry, is_sound_kind, is_sound_row, is_sound_task, is_sound}
+use Rattle.step_tables.specs.Sound.{within, is_sound_action, is_sound_expiry, is_sound_kind, is_sound_row, is_sound_task, rising_below, is_sound}
 use Rattle.run_model.specs.Tables.{blank_row, blank_task, def_of, row_at, home_in}
 use Rattle.run_model.proofs.Readings.{both}
 use Rattle.turn_steps.specs.Ranges.{AreSound, IsFit}
@@ -30,6 +30,7 @@ pub record Sound (s : Script) : Type 0 where
   pub tasks : leb (length s.tasks) 4096 ≡ true
   pub defs : list_all (is_sound_task s.workers (length s.tasks)) s.tasks ≡ true
   pub events : list_all (λ (e : Event). is_sound_action (length s.tasks) e.action) s.events ≡ true
+  pub rising : rising_below 0 s.rounds s.events ≡ true
 
 pub sound_parts : (s : Script) → IsTrue (is_sound s) → Sound s
 unfolding is_sound
@@ -45,7 +46,7 @@ sound_parts s h =
     let k = both _ _ g.1 in
     let l = both (leb (length s.events) 65536) _ k.1 in
     let m = both (list_all (λ (e : Event). is_sound_action (length s.tasks) e.action) s.events) _ l.1 in
-    record { workers = a.0; depth = b.0; start = c.0; step = d.0; rounds = e.0; tasks = f.0; defs = g.0; events = m.0 }
+    record { workers = a.0; depth = b.0; start = c.0; step = d.0; rounds = e.0; tasks = f.0; defs = g.0; events = m.0; rising = m.1 }
 
 pub within-parts : (low high n : ℕ) → within low high n ≡ true → (low ≤ n) × (n ≤ high)
 within-parts low high n h = let p = both (leb low n) _ h in (leb-true low n p.0, leb-true n high p.1)

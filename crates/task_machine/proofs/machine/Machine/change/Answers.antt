@@ -1,21 +1,16 @@
-use Rattle.std.proofs.Common.{◌≡◌, ◌<◌, List, get_or, length, ap, ◌∙◌}
+use Rattle.std.proofs.Common.{◌≡◌, ◌<◌, ℕ, List, get_or, length, ap, sym, ◌∙◌}
 use Rattle.std.proofs.lemmas.List.{get_or_default}
 use Rattle.task_machine.specs.declared.task.TaskState.{TaskState}
-use Rattle.task_machine.specs.Step.{State, subject, changed}
-use Rattle.task_machine.proofs.About.{is_named-task}
-use Rattle.task_machine.proofs.Lists.{each-from_call}
+use Rattle.task_machine.specs.declared.task.Place.TheVariants as places
+use Rattle.task_machine.specs.declared.calls.Call.{Call}
+use Rattle.task_machine.specs.Task.{resting, put}
+use Rattle.task_machine.specs.Step.{State, task_at, after}
+use Rattle.task_machine.proofs.About.{is_named-post}
+use Rattle.task_machine.proofs.Lists.{after_post}
 use Rattle.task_machine.proofs.machine.Machine.change.Goals as goal
 
-pub returns : goal.returns
-returns c =
-    let k = c.args.caller in
-    let call = c.args.call.now in
-    let ts = c.self.inside.tasks.items in
-    let named = is_named-task c.args.self.now k call c.requires.named in
-    let within : subject call < length ts = rw (← c.self.view_is) at named in
-    let read = c.index_mut-task.ensures.value in
-    let here : c.index_mut-task.result.now ≡ get_or ts (subject call) c.index_mut-task.result.now = rw c.subject.ensures at read in
-    let changes : (d : TaskState) → c.change_task.new.task ≡ changed k call (get_or ts (subject call) d) = λ d.
-    c.change_task.ensures ∙ ap (changed k call) (here ∙ get_or_default ts (subject call) c.index_mut-task.result.now d within) in
-    let with_tasks : List TaskState → State = λ us. record { workers = c.self.inside.workers; tasks = us } in
-    rw (← c.self.view_is, c.subject.ensures) (ap with_tasks (each-from_call k call ts c.change_task.new.task c.in_default.not-Get within changes))
+pub returns-in-Post : goal.returns-in-Post
+returns-in-Post c =
+    let s = c.args.self.now in
+    let named = is_named-post s c.args.caller c.in-Post.id c.in-Post.boxno (rw c.in-Post.is at c.requires.named) in
+    c.put.ensures ∙ after_post s c.args.caller c.in-Post.id c.in-Post.boxno named.1 ∙ ap (after s c.args.caller) (sym c.in-Post.is)

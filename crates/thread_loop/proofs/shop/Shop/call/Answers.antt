@@ -5,15 +5,12 @@ use Rattle.task_machine.specs.Step.{reply_of}
 use Rattle.run_model.proofs.Readings.{some_inj}
 use Rattle.thread_loop.specs.Workers.{TellsTakes}
 use Rattle.thread_loop.specs.Shops.{Noted, Heard}
-use Rattle.thread_loop.proofs.Making.{room-making, rows-making, tasks-making}
+use Rattle.thread_loop.proofs.Making.{rows-making, tasks-making}
 use Rattle.thread_loop.proofs.Turning.{allowed-works, hears-works, tells-works, turned-heard, fewer-heard}
 use Rattle.thread_loop.proofs.shop.Shop.call.Goals as goal
 
 pub make-reply-requires-clause-allowed : goal.make-reply-requires-clause-allowed
 make-reply-requires-clause-allowed c = allowed-works _ _ _ _ _ c.args.who c.args.call.now c.requires.number c.requires.works.1 c.requires.asked
-
-pub make-reply-requires-clause-room : goal.make-reply-requires-clause-room
-make-reply-requires-clause-room c = room-making _ _ _ _ c.requires.works.1.making
 
 pub make-reply-requires-clause-rows : goal.make-reply-requires-clause-rows
 make-reply-requires-clause-rows c = rows-making _ _ _ _ c.requires.works.1.making

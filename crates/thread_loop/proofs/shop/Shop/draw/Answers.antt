@@ -26,9 +26,6 @@ body-body-requires-clause-live c = boxed_not_gone _ _ c.requires.boxed
 pub make-requires-clause-allowed : goal.make-requires-clause-allowed
 make-requires-clause-allowed c = allowed-draw _ _ _ _ _ c.args.who c.args.id c.requires.number c.requires.works.1 c.requires.may_draw c.requires.boxed
 
-pub make-requires-clause-room : goal.make-requires-clause-room
-make-requires-clause-room c = room-making _ _ _ _ c.requires.works.1.making
-
 pub make-requires-clause-rows : goal.make-requires-clause-rows
 make-requires-clause-rows c = rows-making _ _ _ _ c.requires.works.1.making
 

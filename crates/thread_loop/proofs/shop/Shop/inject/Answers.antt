@@ -5,7 +5,7 @@ use Rattle.task_machine.specs.declared.calls.Entry.{Entry}
 use Rattle.task_machine.specs.Step.{Allowed, reply_of}
 use Rattle.run_model.specs.Tables.{call_of}
 use Rattle.thread_loop.specs.Shops.{Noted}
-use Rattle.thread_loop.proofs.Making.{room-making, rows-making, tasks-making}
+use Rattle.thread_loop.proofs.Making.{rows-making, tasks-making}
 use Rattle.thread_loop.proofs.Turning.{noted-from}
 use Rattle.thread_loop.proofs.Injecting.{allowed-injector, went-injector, asks-action, target-in, at-rest, posts-asked, injected-busy, injected-rest}
 use Rattle.thread_loop.proofs.shop.Shop.inject.Goals as goal
@@ -16,9 +16,6 @@ make-reply-requires-clause-allowed c =
     let m = c.args.self.now.machine in
     let x = c.requires.injects in
     subst (λ (d : Call). Allowed m (record { caller = k; call = d; reply = reply_of m k d })) (sym c.call_of.ensures) (allowed-injector c.args.script.now x.0 c.args.log.now.entries c.args.self.now k (call_of c.args.action.now) c.workers.ensures.same x.3 (asks-action c.args.script.now x.0 c.args.log.now.entries c.args.action.now x.1 x.2 x.4))
-
-pub make-reply-requires-clause-room : goal.make-reply-requires-clause-room
-make-reply-requires-clause-room c = room-making _ _ _ _ c.requires.injects.3
 
 pub make-reply-requires-clause-rows : goal.make-reply-requires-clause-rows
 make-reply-requires-clause-rows c = rows-making _ _ _ _ c.requires.injects.3
@@ -49,16 +46,6 @@ make-requires-clause-allowed c =
     let w = went-injector s x.0 es mid old new k (call_of a) c.workers.ensures.same x.3 (asks-action c.args.script.now x.0 c.args.log.now.entries a x.1 x.2 x.4) n in
     let there = at-rest s x.0 es mid old new k a x.1 x.2 c.make-reply.result true c.workers.ensures.same x.4 is (sym c.is_rest.ensures ∙ c.if-is_rest.true) w in
     allowed-injector s x.0 mid new k _ c.workers.ensures.same w.making (posts-asked s x.0 mid a x.1 x.2 c.target-id.result c.home_of.result there c.target-id.ensures c.home_of.ensures)
-
-pub make-requires-clause-room : goal.make-requires-clause-room
-make-requires-clause-room c =
-    let k : CallerId = record { 0 = c.workers.result } in
-    let s = c.args.script.now in
-    let a = c.args.action.now in
-    let x = c.requires.injects in
-    let n = subst (λ (d : Call). Noted s k d c.args.log.now.entries c.args.self.now c.make-reply.new.log.entries c.make-reply.new.self) c.call_of.ensures (noted-from s k c.call_of.result _ _ _ _ _ c.in_ok-reserve.ensures.entries c.make-reply.ensures.noted) in
-    let w = went-injector s x.0 _ _ _ _ k (call_of a) c.workers.ensures.same x.3 (asks-action c.args.script.now x.0 c.args.log.now.entries a x.1 x.2 x.4) n in
-    room-making _ _ _ _ w.making
 
 pub make-requires-clause-rows : goal.make-requires-clause-rows
 make-requires-clause-rows c =

@@ -1,0 +1,59 @@
+//! What a worker has in its forest after a turn.
+
+use crate::engine::Engine;
+use crate::worker::Worker;
+use std::alloc::{AllocError, Global};
+use std::test::Fail;
+use step_tables::Script;
+
+/// A task that sets a timer past the end of the ticks, and is killed by its next run.
+const TIMER: &str =
+    "taskscript 1\nworkers 1\ndepth 200\nstart 4294967290\nstep 4\nrounds 10\ntask a home 0 nice 0 rows 2 init\nrow a 0 after 10 next 1\nrow a 1 kill a next 1\nend\n";
+
+/// In which roots the first task's timer and run are, and the timer's key.
+#[derive(Clone, Copy, Debug, PartialEq, Eq)]
+struct Queued {
+    timer: Option<u32>,
+    key: Option<u32>,
+    run: Option<u32>,
+}
+
+fn first_of(worker: &Worker) -> Queued {
+    let forest = worker.forest();
+    let timer = forest.is_in(0);
+    Queued {
+        timer,
+        key: match timer {
+            Some(_) => Some(forest.key_of(0)),
+            None => None,
+        },
+        run: forest.is_in(1),
+    }
+}
+
+/// What the first worker has after the first round.
+fn after_first_round(alloc: Global, script: &Script) -> Result<Option<Queued>, AllocError> {
+    let start = script.start();
+    let mut engine = Engine::new(alloc, script)?;
+    if script.rounds() == 0 {
+        return Ok(None);
+    }
+    engine.round(script, 0, start)?;
+    Ok(engine.workers.first().map(first_of))
+}
+
+#[test]
+fn timer_of_a_first_turn_stands_in_the_forest(rt: HostRuntime) -> Result<(), Fail> {
+    let alloc = rt.alloc();
+    if let Ok(script) = Script::read(alloc, TIMER.as_bytes()) {
+        let wanted = Queued {
+            timer: Some(0),
+            key: Some(4),
+            run: None,
+        };
+        assert_eq!(rt; after_first_round(alloc, &script)?, Some(wanted));
+    } else {
+        assert!(rt; false);
+    }
+    Ok(())
+}
