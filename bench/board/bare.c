@@ -1,4 +1,5 @@
-/* The atomic steps of a board alone, for comparison: wakes and cycles on bare words, as crates/board_bench makes them.
+/* The atomic steps of a board alone, for comparison: wakes, cycles, draws and moves of bodies on bare words, as
+   crates/board_bench makes them.
    The one argument is how often each is made; each line tells the nanoseconds of one. */
 #include <pthread.h>
 #include <stdatomic.h>
@@ -40,6 +41,66 @@ static void *cycles(void *argument) {
     return NULL;
 }
 
+struct body {
+    uint32_t row;
+    uint64_t takes;
+};
+
+/* Word 0 is that of moves, word 1 the task's, and word 2 the shared box's; the slot lies behind the words. */
+static struct body *slot(_Atomic uint64_t *words) { return (struct body *)(words + 4); }
+
+static void *draws(void *argument) {
+    struct side *side = argument;
+    uint32_t drawn = 0;
+    for (uint32_t i = 0; i < side->times; i++)
+        drawn += (uint32_t)(atomic_fetch_and(side->word + 1, ~(uint64_t)1) & 1);
+    side->seen = drawn;
+    return NULL;
+}
+
+static void *bodies(void *argument) {
+    struct side *side = argument;
+    _Atomic uint64_t *words = side->word - 1;
+    uint64_t takes = 0;
+    for (uint32_t i = 0; i < side->times; i++) {
+        atomic_load(words);
+        struct body body = *slot(words);
+        takes += body.takes;
+        atomic_load(words);
+        *slot(words) = body;
+        atomic_load(words);
+    }
+    side->seen = (uint32_t)takes;
+    return NULL;
+}
+
+static const uint32_t nexts[3] = {2, 0, 1};
+
+static void *shared_runs(void *argument) {
+    struct side *side = argument;
+    _Atomic uint64_t *words = side->word - 1;
+    uint32_t taken = 0;
+    atomic_store(words + 2, 1);
+    for (uint32_t i = 0; i < side->times; i++) {
+        if (!(atomic_fetch_and(words + 2, ~(uint64_t)1) & 1))
+            continue;
+        atomic_load(words);
+        struct body body = *slot(words);
+        atomic_exchange(words + 1, ((body.takes + 1) << 16) | 1);
+        body.row = nexts[body.row % 3];
+        body.takes++;
+        atomic_load(words);
+        *slot(words) = body;
+        atomic_load(words);
+        int busy = (atomic_fetch_and(words + 1, ~(uint64_t)1) & 32516) != 0;
+        if (busy | rests(atomic_fetch_or(words + 1, 4098)))
+            atomic_fetch_or(words + 2, 1);
+        taken++;
+    }
+    side->seen = taken;
+    return NULL;
+}
+
 static double now(void) {
     struct timespec at;
     clock_gettime(CLOCK_MONOTONIC, &at);
@@ -47,7 +108,7 @@ static double now(void) {
 }
 
 static void alone(const char *name, void *(*work)(void *), uint32_t times) {
-    _Atomic uint64_t *words = calloc(6, sizeof *words);
+    _Atomic uint64_t *words = calloc(8, sizeof *words);
     struct side side = {words + 1, times, 0};
     double start = now();
     work(&side);
@@ -76,5 +137,8 @@ int main(int count, char **words) {
     alone("cycle_alone", cycles, times);
     both("cycle_apart", cycles, 2, times);
     both("wake_together", wakes, 1, times);
+    alone("draw_alone", draws, times);
+    alone("body_alone", bodies, times);
+    alone("shared_alone", shared_runs, times);
     return 0;
 }

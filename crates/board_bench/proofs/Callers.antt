@@ -1,5 +1,5 @@
 -- What a caller has after a call, and a board of tasks at rest.
-use Rattle.std.proofs.Common.{◌≡◌, ◌≢◌, ℕ, suc, ◌+◌, ◌/◌, ◌%◌, ◌^◌, ◌<◌, ◌≤◌, Bool, true, false, ◌==◌, if◌then◌else◌, List, [], ◌∷◌, length, replicate, get_or, set, Option, Some, None, refl, sym, ap, subst, ◌∙◌, inl, inr, arith, eq-eqb}
+use Rattle.std.proofs.Common.{◌≡◌, ◌≢◌, ℕ, zero, suc, ◌+◌, ◌/◌, ◌%◌, ◌-◌, ◌^◌, ◌<◌, ◌≤◌, Bool, true, false, ◌==◌, if◌then◌else◌, List, [], ◌∷◌, length, replicate, get_or, set, Option, Some, None, refl, sym, ap, subst, ◌∙◌, inl, inr, arith, eq-eqb}
 use Rattle.std.proofs.lemmas.Bool.{cases_lt, cases_eq}
 use Rattle.std.proofs.lemmas.List.{get_or_past, get_or-replicate, length-replicate, get_or-set_same, get_or-set_other}
 use Rattle.std.proofs.lemmas.Option.{slice_get-get_or}
@@ -25,7 +25,9 @@ use Rattle.task_machine.specs.Own.{Own, away, holding, drawing, running, saw_res
 use Rattle.task_machine.proofs.About.{NoGet, is_about-subject, is_about-other}
 use Rattle.wake_board.specs.Rows.{WordRow, width, task_word, blank_row, row_seated}
 use Rattle.wake_board.specs.Start.{Start, no_holder, home_of}
-use Rattle.wake_board.specs.Own.{NoBody}
+use Rattle.wake_board.specs.Outs.{NoBody}
+use Rattle.wake_board.specs.Own.{known_takes}
+use Rattle.wake_board.specs.Bodies.{MayTake}
 use Rattle.wake_board.specs.Between.{StandBetween, FewTakes}
 use Rattle.wake_board.specs.Seen.{Held, Laid, entry_by, with_call, with_misses, Calls, Misses}
 use Rattle.wake_board.specs.Ends.{Opens, own_by, fresh, IsIdle, AllBack}
@@ -175,23 +177,27 @@ fresh_idle b k n r =
     }
 
 -- the passes with both callers' back
-pub all_back : (d : Driven) (hs : List ℕ) (w : ℕ) (passes : List (Option Held)) → IsDriven d hs w → passes ≡ set (set d.passes 0 (Some d.first.pass)) 1 (Some d.second.pass) → ((i : ℕ) → i < length d.first.has.items → get_or d.first.has.items i has.Nothing ≢ has.Run) → ((i : ℕ) → i < length d.second.has.items → get_or d.second.has.items i has.Nothing ≢ has.Run) → 1 ≤ w → AllBack d.board passes
-all_back d hs w passes r is one two some' =
-    let long : length d.passes ≡ suc w = r.count in
-    let first : List (Option Held) = set d.passes 0 (Some d.first.pass) in
-    let wide : length (set first 1 (Some d.second.pass)) ≡ suc w = length-set first 1 (Some d.second.pass) ∙ (length-set d.passes 0 (Some d.first.pass) ∙ r.count) in
-    let wide' : length first ≡ suc w = length-set d.passes 0 (Some d.first.pass) ∙ r.count in
-    let made : AllBack d.board (set first 1 (Some d.second.pass)) = record {
-      count = wide ∙ ap suc (sym r.workers);
+pub both_back : (b : Laid) (outs passes : List (Option Held)) (p q : Held) → length outs ≡ suc b.start.state.workers → 1 ≤ b.start.state.workers → passes ≡ set (set outs 0 (Some p)) 1 (Some q) → IsIdle b 0 p → IsIdle b 1 q → ((k : ℕ) → 1 < k → k ≤ b.start.state.workers → get_or outs k None ≡ Some (fresh b k)) → ((k : ℕ) → IsIdle b k (fresh b k)) → AllBack b passes
+both_back b outs passes p q count some' is one two others new =
+    let first : List (Option Held) = set outs 0 (Some p) in
+    let long : length first ≡ suc b.start.state.workers = length-set outs 0 (Some p) ∙ count in
+    let wide : length (set first 1 (Some q)) ≡ suc b.start.state.workers = length-set first 1 (Some q) ∙ long in
+    let made : AllBack b (set first 1 (Some q)) = record {
+      count = wide;
       back = λ k l. elim (cases_eq k 1) [
-        | inl same ↦ (d.second.pass, ap (λ (n : ℕ). get_or (set first 1 (Some d.second.pass)) n None) same ∙ get_or-set_same first 1 (Some d.second.pass) None (omega arith), idle_after d.board d.second.pass d.second.has.items d.second.takes k r.second (r.who_second ∙ sym same) two)
+        | inl same ↦ (q, ap (λ (n : ℕ). get_or (set first 1 (Some q)) n None) same ∙ get_or-set_same first 1 (Some q) None (omega arith), subst (λ (n : ℕ). IsIdle b n q) (sym same) two)
         | inr ne ↦ elim (cases_eq k 0) [
-          | inl zero' ↦ (d.first.pass, get_or-set_other first 1 k (Some d.second.pass) None ne ∙ (ap (λ (n : ℕ). get_or first n None) zero' ∙ get_or-set_same d.passes 0 (Some d.first.pass) None (omega arith)), idle_after d.board d.first.pass d.first.has.items d.first.takes k r.first (r.who_first ∙ sym zero') one)
-          | inr more ↦ (fresh d.board k, get_or-set_other first 1 k (Some d.second.pass) None ne ∙ (get_or-set_other d.passes 0 k (Some d.first.pass) None more ∙ r.others k (omega arith) (let z = r.workers in omega arith)), fresh_idle d.board k (length hs) r.rest)
+          | inl zero' ↦ (p, get_or-set_other first 1 k (Some q) None ne ∙ (ap (λ (n : ℕ). get_or first n None) zero' ∙ get_or-set_same outs 0 (Some p) None (omega arith)), subst (λ (n : ℕ). IsIdle b n p) (sym zero') one)
+          | inr more ↦ (fresh b k, get_or-set_other first 1 k (Some q) None ne ∙ (get_or-set_other outs 0 k (Some p) None more ∙ others k (omega arith) l), new k)
         ]
       ];
     } in
-    subst (AllBack d.board) (sym is) made
+    subst (AllBack b) (sym is) made
+
+pub all_back : (d : Driven) (hs : List ℕ) (w : ℕ) (passes : List (Option Held)) → IsDriven d hs w → passes ≡ set (set d.passes 0 (Some d.first.pass)) 1 (Some d.second.pass) → ((i : ℕ) → i < length d.first.has.items → get_or d.first.has.items i has.Nothing ≢ has.Run) → ((i : ℕ) → i < length d.second.has.items → get_or d.second.has.items i has.Nothing ≢ has.Run) → 1 ≤ w → AllBack d.board passes
+all_back d hs w passes r is one two some' =
+    let workers = r.workers in
+    both_back d.board d.passes passes d.first.pass d.second.pass (r.count ∙ ap suc (sym r.workers)) (omega arith) is (idle_after d.board d.first.pass d.first.has.items d.first.takes 0 r.first r.who_first one) (idle_after d.board d.second.pass d.second.has.items d.second.takes 1 r.second r.who_second two) (λ k more l. r.others k more (omega arith)) (λ k. fresh_idle d.board k (length hs) r.rest)
 
 pub put_both : (d : Driven) (hs : List ℕ) (w : ℕ) (ps qs : List (Option Held)) → IsDriven d hs w → ps ≡ set d.passes d.first.pass.who (Some d.first.pass) → qs ≡ set ps d.second.pass.who (Some d.second.pass) → qs ≡ set (set d.passes 0 (Some d.first.pass)) 1 (Some d.second.pass)
 put_both d hs w ps qs r a b =
@@ -253,6 +259,21 @@ about_self i = eq-eqb i i refl
 pub at_wake : (b : Laid) (p q : Held) (id : TaskId) (f n : ℕ) (seen : Seen) → IsAt b p id.0 away n → Calls p (calls.Wake id f) (replies.Task seen) q → saw_rest seen ≡ true → IsAt b q id.0 holding n
 at_wake b p q id f n seen a t rested =
     at_call b p q (calls.Wake id f) (replies.Task seen) id.0 n n away holding a t (ap (λ (y : Bool). own_next away (if y then event_of id.0 (calls.Wake id f) (replies.Task seen) else apart)) (about_self id.0) ∙ ap (λ (y : Bool). if y then holding else away) rested) (omega arith)
+
+-- a worker may take a task of its own that is in its hands
+pub may_take_own : (b : Laid) (p : Held) (i : ℕ) → p.start ≡ b.start → own_by p i ≡ holding → home_of b.start i ≡ p.who → p.who < b.start.state.workers → known_takes b.start p.entries i < 2 ^ 40 → (t : ℕ) × MayTake p i t × (t < 2 ^ 48 - 1)
+may_take_own b p i start held home near few =
+    let worker : p.who < p.start.state.workers = subst (λ (o : Start). p.who < o.state.workers) (sym start) near in (
+      known_takes b.start p.entries i,
+      inl (record { held = held; home = ap (λ (o : Start). home_of o i) start ∙ home; worker = worker; known = ap (λ (o : Start). known_takes o p.entries i) start }),
+      omega arith,
+    )
+
+pub at_may_take : (b : Laid) (p : Held) (i n : ℕ) → IsAt b p i holding n → n < 2 ^ 40 → (t : ℕ) × MayTake p i t × (t < 2 ^ 48 - 1)
+at_may_take b p i n a few =
+    let takes = a.takes in
+    let same : known_takes p.start p.entries i ≡ known_takes b.start p.entries i = ap (λ (o : Start). known_takes o p.entries i) a.used.start in
+    may_take_own b p i a.used.start a.own a.home a.worker (omega arith)
 
 pub at_take : (b : Laid) (p q : Held) (id : TaskId) (n : ℕ) (seen : Seen) → IsAt b p id.0 holding n → Calls p (calls.Take id) (replies.Task seen) q → IsAt b q id.0 running (n + 1)
 at_take b p q id n seen a t =
@@ -321,14 +342,6 @@ used_missed b p q tasks u t =
     let there : IsUsed b (with_misses p tasks) = record { board = u.board; start = u.start; outs = u.outs } in
     subst (IsUsed b) (sym t.noted) there
 
--- a task that was drawn is drawn
-pub drawn_own : (p q : Held) (id : TaskId) → Calls p (calls.Draw id) replies.Done q → own_by q id.0 ≡ drawing
-drawn_own p q id t =
-    own-called p q (calls.Draw id) replies.Done id.0 t ∙ ap (λ (y : Bool). own_next (own_by p id.0) (if y then event_of id.0 (calls.Draw id) replies.Done else apart)) (about_self id.0)
-
-pub drawn_has : (p q : Held) (id : TaskId) → Calls p (calls.Draw id) replies.Done q → own_by q id.0 ≢ away
-drawn_has p q id t e = let z : drawing ≡ away = sym (drawn_own p q id t) ∙ e in cc
-
 -- one task in the shared box of two workers
 pub shared_stands : (ws new : WordRow) (nexts : List (List ℕ)) → NewWordsStand → SeatedWordsStand → ws ≡ blank_row 1 2 → (task_word ws 0 ≡ 0) × ((new ≡ row_seated ws 0 2) → StandBetween new (2 ∷ []) (no_holder ∷ []) nexts (put_task (all_rest 1 2) 0 (seated 2 (task_at (all_rest 1 2) 0))))
 shared_stands ws new nexts blank law is =
@@ -345,14 +358,18 @@ few_shared i l shared lives =
     let z : i ≡ 0 = omega arith in
     subst (λ (k : ℕ). (task_at (put_task (all_rest 1 2) 0 (seated 2 (task_at (all_rest 1 2) 0))) k).takes < 2 ^ 47) (sym z) (omega arith)
 
-used_fresh : (b : Laid) (p : Held) (k : ℕ) → p ≡ fresh b k → IsUsed b p
-used_fresh b p k e =
-    let there : IsUsed b (fresh b k) = record { board = refl; start = refl; outs = refl } in subst (IsUsed b) (sym e) there
+-- a fresh pass of such a board has nothing
+seated_away : (k i : ℕ) → own_at k (task_at (put_task (all_rest 1 2) 0 (seated 2 (task_at (all_rest 1 2) 0))) i).place ≡ away
+seated_away k zero = refl
+seated_away k (suc i) = refl
 
--- the passes of such a board
-pub shared_first : (b : Laid) (all : List (Option Held)) (p : Held) → HasShared b all → Some p ≡ get_or all 0 None → IsUsed b p
-shared_first b all p r e = used_fresh b p 0 (some_same p (fresh b 0) (e ∙ r.each 0 (omega arith)))
-
-pub shared_second : (b : Laid) (all ps : List (Option Held)) (p : Held) → HasShared b all → ps ≡ set all 0 None → Some p ≡ get_or ps 1 None → IsUsed b p
-shared_second b all ps p r a e =
-    used_fresh b p 1 (some_same p (fresh b 1) (e ∙ (ap (λ (x : List (Option Held)). get_or x 1 None) a ∙ (get_or-set_other all 0 1 None None (λ z. cc) ∙ r.each 1 (omega arith)))))
+pub has_shared : (b : Laid) (passes : List (Option Held)) → b.start.homes ≡ 2 ∷ [] → b.start.state ≡ put_task (all_rest 1 2) 0 (seated 2 (task_at (all_rest 1 2) 0)) → length passes ≡ 3 → ((k : ℕ) → k ≤ 2 → get_or passes k None ≡ Some (fresh b k)) → HasShared b passes
+has_shared b passes homes state count each =
+    record {
+      tasks = ap (λ (s : State). length s.tasks) state;
+      workers = ap (λ (s : State). s.workers) state;
+      home = ap (λ (l : List ℕ). get_or l 0 0) homes;
+      count = count;
+      each = each;
+      away_all = λ k i. ap (λ (s : State). own_at k (task_at s i).place) state ∙ seated_away k i;
+    }

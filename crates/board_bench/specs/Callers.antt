@@ -81,7 +81,11 @@ pub record IsNew (d : Driven) : Type 0 where
   pub first : d.first.pass ≡ fresh d.board 0
   pub second : d.second.pass ≡ fresh d.board 1
 
--- a board of one task and two workers, with fresh passes
+-- a board of one shared task and two workers, with fresh passes
 pub record HasShared (b : Laid) (passes : List (Option Held)) : Type 0 where
   pub tasks : length b.start.state.tasks ≡ 1
+  pub workers : b.start.state.workers ≡ 2
+  pub home : home_of b.start 0 ≡ 2
+  pub count : length passes ≡ 3
   pub each : (k : ℕ) → k ≤ 2 → slice_index_or passes k None ≡ Some (fresh b k)
+  pub away_all : (k i : ℕ) → own_by (fresh b k) i ≡ away

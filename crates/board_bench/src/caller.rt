@@ -4,7 +4,7 @@ ghost use Rattle.std.specs.Prelude.{◌≡◌, ◌≢◌, ℕ, ◌+◌, ◌-◌,
 ghost use Rattle.std.specs.Int.{bit_at};
 ghost use Rattle.task_machine.specs.declared.calls.Call.TheVariants as calls;
 ghost use Rattle.task_machine.specs.declared.calls.Reply.TheVariants as replies;
-ghost use Rattle.task_machine.specs.Own.{own_next};
+ghost use Rattle.task_machine.specs.Own.{holding, own_next};
 ghost use Rattle.task_machine.specs.Event.{event_of};
 ghost use Rattle.task_machine.specs.Step.{subject};
 ghost use Rattle.wake_board.specs.Seen.{Calls};
@@ -51,6 +51,19 @@ fn next(has: Has, call: &Call, seen: &Seen) -> Has
     }
 }
 
+/// Takes a task of the caller's own, which is in its hands.
+fn take_own(board: &Board, pass: &mut Pass, id: TaskId) -> Seen
+    requires used { IsUsed board.now pass.old }
+    requires exists { id.0 < length board.now.start.state.tasks }
+    requires held { own_by pass.old id.0 ≡ holding }
+    requires home { home_of board.now.start id.0 ≡ pass.old.who }
+    requires worker { pass.old.who < board.now.start.state.workers }
+    requires room { known_takes board.now.start pass.old.entries id.0 < 2 ^ 40 }
+    ensures { Calls pass.old (calls.Take id) (replies.Task result) pass.new }
+{
+    board.take(pass, id)
+}
+
 /// A call that looks at a task, where it may be made.
 fn look(board: &Board, pass: &mut Pass, call: &Call, has: Has, home: u32) -> Option<Seen>
     requires used { IsUsed board.now pass.old }
@@ -65,7 +78,7 @@ fn look(board: &Board, pass: &mut Pass, call: &Call, has: Has, home: u32) -> Opt
     let seen = match *call {
         Call::Wake(id, reasons) if !reasons.is_empty() => board.wake(pass, id, reasons),
         Call::Kill(id) => board.kill(pass, id),
-        Call::Take(id) if has == Has::Hands && pass.who().0 == home => board.take(pass, id),
+        Call::Take(id) if has == Has::Hands && pass.who().0 == home => take_own(board, pass, id),
         Call::DropRun(id) if has == Has::Run => board.drop_run(pass, id),
         Call::Retire(id) if has != Has::Nothing => board.retire(pass, id),
         _ => return None,

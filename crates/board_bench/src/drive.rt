@@ -8,6 +8,7 @@ use crate::driven::Driven;
 use crate::laid::laid;
 use sched_base::CallerId;
 use std::alloc::{AllocError, Global};
+use step_tables::Nexts;
 use wake_board::Words;
 
 /// A board of tasks at rest with these homes, and its callers 0 and 1.
@@ -22,7 +23,7 @@ pub(crate) fn driven(
     requires own { (i : ℕ) → i < length homes.now → slice_index homes.now i < workers }
     ensures { IfOk result (λ o. IfSome o (λ d. IsDriven d homes.now workers × IsNew d)) }
 {
-    let (board, passes) = laid(alloc, workers, homes)?;
+    let (board, passes) = laid(alloc, workers, homes, &Nexts::none(alloc))?;
     let mut passes = passes;
     let Some(first) = passes.take(CallerId(0)) else {
         return Ok(None);

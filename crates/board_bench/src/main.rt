@@ -3,16 +3,21 @@
 #![tactic(auto)]
 
 mod caller;
+mod drawn;
 mod drive;
 mod driven;
 mod has;
 mod laid;
+mod pair;
 mod rounds;
+mod scripts;
 #[cfg(test)]
 mod tests;
 mod work;
 
-use rounds::{cycle_alone, cycle_apart, wake_alone, wake_together};
+use rounds::{
+    body_alone, cycle_alone, cycle_apart, draw_alone, shared_alone, wake_alone, wake_together,
+};
 use std::{env, io};
 
 fn main(rt: HostRuntime) -> io::Result<()> {
@@ -26,6 +31,9 @@ fn main(rt: HostRuntime) -> io::Result<()> {
         ("cycle_alone", cycle_alone(&rt, times)?),
         ("cycle_apart", cycle_apart(&rt, &rt, times)?),
         ("wake_together", wake_together(&rt, &rt, times)?),
+        ("draw_alone", draw_alone(&rt, times)?),
+        ("body_alone", body_alone(&rt, times)?),
+        ("shared_alone", shared_alone(&rt, times)?),
     ];
     for (name, tenths) in rows {
         println!(rt; "{name} {}.{}", tenths / 10, tenths % 10)?;

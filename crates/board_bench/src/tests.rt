@@ -1,20 +1,26 @@
 //! Worked rows of calls, the two sides of a join, and two threads.
 
-ghost use Rattle.std.specs.Prelude.{◌≡◌, ◌<◌, length};
-ghost use Rattle.board_bench.specs.Callers.{IsUsed, IsListed, AreHomes, IsDriven};
+ghost use Rattle.std.specs.Prelude.{◌≡◌, ℕ, ◌<◌, ◌≤◌, length, IfSome};
+ghost use Rattle.step_tables.specs.Nexts.{nexts_of};
+ghost use Rattle.board_bench.specs.Callers.{IsListed, AreHomes, IsDriven};
+ghost use Rattle.board_bench.specs.Drawn.{IsClear, HasDrawn, IsSharedTask};
+ghost use Rattle.board_bench.specs.Pairs.{IsPair, IsNewPair};
 
 use crate::caller::Caller;
+use crate::drawn::{Run, draw_and_run, draws, next_row, peep_and_draw, run_drawn, spread};
 use crate::drive::{driven, ended};
 use crate::driven::Driven;
-use crate::has::{Has, rests};
-use crate::laid::shared;
-use crate::work::draw_and_retire;
-use sched_base::{CallerId, Reasons, TaskId};
+use crate::has::Has;
+use crate::laid::{all_shared, shared};
+use crate::pair::{Pair, paired, parted};
+use crate::scripts::round_script;
+use sched_base::{Reasons, TaskId};
 use std::alloc::AllocError;
 use std::test::Fail;
 use std::thread::{Threads, join_mut};
+use step_tables::{Nexts, Script};
 use task_machine::{Call, Reply, Seen, Stand};
-use wake_board::{Board, Pass, Words};
+use wake_board::{Board, Body, Pass, Words};
 
 /// A call of a table: by which caller, which, and the reply.
 type Row = (u32, Call, Reply);
@@ -83,7 +89,8 @@ fn word_of(words: &Words, id: TaskId) -> Option<u64> {
     }
 }
 
-/// Plays the first rows on a board of one task and one worker; the task's word after them, none where a reply is another.
+/// Plays the first rows on a board of one task and one worker; the task's word after them, in a copy of the words, none where a
+/// reply is another.
 fn played(rt: &HostRuntime, rows: &[Row], count: usize) -> Result<Option<u64>, AllocError> {
     let homes = [0];
     let Some(driven) = driven(rt.alloc(), 1, &homes)? else {
@@ -96,9 +103,21 @@ fn played(rt: &HostRuntime, rows: &[Row], count: usize) -> Result<Option<u64>, A
         }
     }
     match ended(driven, &homes, 1) {
-        Some(words) => Ok(word_of(&words, TaskId(0))),
+        Some(words) => Ok(word_of(&words.try_clone()?, TaskId(0))),
         None => Ok(None),
     }
+}
+
+/// Whether the calls' replies are what is seen of these words; a call that finds no task's word has none.
+fn found(rows: &[Row], words: &[Option<u64>]) -> bool {
+    for (row, word) in rows.iter().zip(words.iter()) {
+        if let Some(word) = *word
+            && row.2 != Reply::Task(task_word::seen_of(word))
+        {
+            return false;
+        }
+    }
+    true
 }
 
 #[test]
@@ -122,6 +141,17 @@ fn one_task_goes_its_way(rt: HostRuntime) -> Result<(), Fail> {
     for (count, word) in [(1, 2050), (6, 66562), (8, 131072)] {
         assert!(rt; played(&rt, &rows, count)? == Some(word));
     }
+    let words = [
+        Some(0),
+        None,
+        None,
+        Some(2050),
+        Some(65537),
+        Some(66563),
+        Some(66562),
+        Some(131_073),
+    ];
+    assert!(rt; found(&rows, &words));
     let rows: [Row; 9] = [
         (
             1,
@@ -140,6 +170,19 @@ fn one_task_goes_its_way(rt: HostRuntime) -> Result<(), Fail> {
     for (count, word) in [(7, 66566), (8, 8), (9, 1034)] {
         assert!(rt; played(&rt, &rows, count)? == Some(word));
     }
+    let words = [
+        Some(0),
+        None,
+        None,
+        Some(2050),
+        Some(65537),
+        Some(65543),
+        Some(66567),
+        Some(66566),
+        Some(8),
+    ];
+    assert!(rt; found(&rows, &words));
+    assert!(rt; task_word::seen_of(1034) == Seen::Gone);
     Ok(())
 }
 
@@ -254,45 +297,187 @@ fn two_threads_wake_and_take(rt: HostRuntime) -> Result<(), Fail> {
     Ok(())
 }
 
-/// Two callers draw one task, each on a thread; what each saw of it, and whether it is in the shared box after that.
-fn both_draw(
-    threads: &impl Threads,
+/// What two callers saw that look into the shared box and draw one task, each on a thread; and the runs after that, of the
+/// one that drew it, and then of the other.
+#[derive(Clone, Copy, Debug)]
+struct Turns {
+    words: (u64, u64),
+    drawn: (bool, bool),
+    run: Run,
+    next: Option<Run>,
+}
+
+/// Lets a caller run a task that it has drawn, and then another caller draw and run it.
+fn run_in_turn(
     board: &Board,
-    first: &mut Pass,
-    second: &mut Pass,
+    drawer: &mut Pass,
+    other: &mut Pass,
+    script: &Script,
     id: TaskId,
-) -> (Option<Seen>, Option<Seen>, u64)
-    requires first { IsUsed board.now first.old }
-    requires second { IsUsed board.now second.old }
-    requires exists { id.0 < length board.now.start.state.tasks }
+    workers: u32,
+) -> (Run, Option<Run>)
+    requires drawn { HasDrawn board.now drawer.old id.0 }
+    requires clear { IsClear board.now other.old }
+    requires task { IsSharedTask board.now id.0 workers }
+    requires nexts { board.now.start.nexts ≡ nexts_of script.now }
+    requires few { length drawer.old.entries ≤ 1 }
+    requires few_other { length other.old.entries ≤ 1 }
+    ensures drawer { IsClear board.now drawer.new }
+    ensures other { IsClear board.now other.new }
+    ensures who_drawer { drawer.new.who ≡ drawer.old.who }
+    ensures who_other { other.new.who ≡ other.old.who }
 {
+    let run = run_drawn(board, drawer, script, id, workers);
+    (run, draw_and_run(board, other, script, id, workers))
+}
+
+/// Lets two callers draw a task at once, and run it one after the other; none where not just one of them drew it.
+fn drawn_in_turn(
+    threads: &impl Threads,
+    pair: &mut Pair,
+    script: &Script,
+    id: TaskId,
+    workers: u32,
+) -> Option<Turns>
+    requires pair { IsNewPair pair.old }
+    requires task { IsSharedTask pair.old.board id.0 workers }
+    requires nexts { pair.old.board.start.nexts ≡ nexts_of script.now }
+    ensures { IfSome result (λ turns. IsPair pair.new) }
+{
+    let Pair {
+        board,
+        first,
+        second,
+        ..
+    } = pair;
     let (a, b) = join_mut(
         threads,
-        &mut || draw_and_retire(board, first, id),
-        &mut || draw_and_retire(board, second, id),
+        &mut || peep_and_draw(board, first, id),
+        &mut || peep_and_draw(board, second, id),
     );
-    let left = board.peep(first, id.0 / 64);
-    (a, b, left)
+    let words = (a.0, b.0);
+    let drawn = (a.1, b.1);
+    if a.1 && !b.1 {
+        let (run, next) = run_in_turn(board, first, second, script, id, workers);
+        return Some(Turns {
+            words,
+            drawn,
+            run,
+            next,
+        });
+    }
+    if b.1 && !a.1 {
+        let (run, next) = run_in_turn(board, second, first, script, id, workers);
+        return Some(Turns {
+            words,
+            drawn,
+            run,
+            next,
+        });
+    }
+    None
+}
+
+/// How often a task was taken, by its body; none where the body does not fit the task's word.
+fn taken_by_body(words: &Words, script: &Script, id: TaskId) -> Option<u64> {
+    if id.0 >= words.tasks() {
+        return None;
+    }
+    let body = words.body(id);
+    let mut row = 0;
+    for _ in 0..body.takes {
+        row = next_row(script, id, row);
+    }
+    if body.takes == words.task(id) >> 16 && body.row == row {
+        Some(body.takes)
+    } else {
+        None
+    }
 }
 
 #[test]
-fn one_of_two_draws_a_task(rt: HostRuntime) -> Result<(), Fail> {
-    let (board, passes) = shared(rt.alloc())?;
-    let mut passes = passes;
-    let Some(mut first) = passes.take(CallerId(0)) else {
-        panic!(rt; "no first pass");
+fn a_body_goes_from_caller_to_caller(rt: HostRuntime) -> Result<(), Fail> {
+    let id = TaskId(0);
+    let Ok(script) = round_script(rt.alloc(), 1) else {
+        panic!(rt; "no script");
     };
-    let Some(mut second) = passes.take(CallerId(1)) else {
-        panic!(rt; "no second pass");
+    let nexts = Nexts::of(rt.alloc(), &script)?;
+    let (board, passes) = shared(rt.alloc(), &nexts)?;
+    let Some(mut pair) = paired(board, passes) else {
+        panic!(rt; "no passes");
     };
-    let (a, b, left) = both_draw(&rt, &board, &mut first, &mut second, TaskId(0));
-    let queued = Some(Seen::Live {
+    let Some(turns) = drawn_in_turn(&rt, &mut pair, &script, id, 2) else {
+        panic!(rt; "not just one drew");
+    };
+    assert!(rt; turns.words.0 == 1 || turns.words.1 == 1);
+    assert!(rt; turns.drawn.0 != turns.drawn.1);
+    let seen = |pending, takes| Seen::Live {
         stand: Stand::Queued,
-        pending: Reasons::INIT,
+        pending,
         killed: false,
-        takes: 0,
-    });
-    assert!(rt; (a == queued && b.is_none()) || (a.is_none() && b == queued));
-    assert!(rt; left == 0);
+        takes,
+    };
+    assert!(rt; turns.run.body == Body { row: 0, takes: 0 });
+    assert!(rt; turns.run.seen == seen(Reasons::INIT, 0));
+    let Some(next) = turns.next else {
+        panic!(rt; "no second run");
+    };
+    assert!(rt; next.body == Body { row: 2, takes: 1 });
+    assert!(rt; next.seen == seen(Reasons::MSG, 1));
+    let words = parted(pair);
+    assert_eq!(rt; taken_by_body(&words, &script, id), Some(2));
+    Ok(())
+}
+
+/// Wakes all tasks, and lets two callers draw and run them at once; how many runs each made.
+fn drawn_by_two(
+    threads: &impl Threads,
+    pair: &mut Pair,
+    script: &Script,
+    tasks: u32,
+    workers: u32,
+    times: u32,
+) -> (u64, u64)
+    requires pair { IsNewPair pair.old }
+    requires tasks { (i : ℕ) → i < tasks → IsSharedTask pair.old.board i workers }
+    requires some_tasks { 1 ≤ tasks }
+    requires few_tasks { tasks ≤ 4096 }
+    requires nexts { pair.old.board.start.nexts ≡ nexts_of script.now }
+    ensures { IsPair pair.new }
+{
+    let Pair {
+        board,
+        first,
+        second,
+        ..
+    } = pair;
+    spread(board, first, tasks, workers);
+    join_mut(
+        threads,
+        &mut || draws(board, first, script, tasks, workers, times),
+        &mut || draws(board, second, script, tasks, workers, times),
+    )
+}
+
+#[test]
+fn two_threads_draw_shared_tasks(rt: HostRuntime) -> Result<(), Fail> {
+    let Ok(script) = round_script(rt.alloc(), 64) else {
+        panic!(rt; "no script");
+    };
+    let nexts = Nexts::of(rt.alloc(), &script)?;
+    let (board, passes) = all_shared(rt.alloc(), 64, &nexts)?;
+    let Some(mut pair) = paired(board, passes) else {
+        panic!(rt; "no passes");
+    };
+    let (a, b) = drawn_by_two(&rt, &mut pair, &script, 64, 2, 10_000);
+    let words = parted(pair);
+    let mut taken = 0u64;
+    for i in 0..64 {
+        let Some(takes) = taken_by_body(&words, &script, TaskId(i)) else {
+            panic!(rt; "a body does not fit");
+        };
+        taken = taken.wrapping_add(takes);
+    }
+    assert!(rt; taken == a.wrapping_add(b) && taken >= 10_000);
     Ok(())
 }

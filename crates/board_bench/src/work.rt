@@ -42,16 +42,3 @@ pub(crate) fn cycles(board: &Board, pass: &mut Pass, id: TaskId, times: u32) -> 
     }
     times
 }
-
-/// Draws a task and removes it for good; what was seen of it, none where it was not in the shared box.
-pub(crate) fn draw_and_retire(board: &Board, pass: &mut Pass, id: TaskId) -> Option<Seen>
-    requires used { IsUsed board.now pass.old }
-    requires exists { id.0 < length board.now.start.state.tasks }
-    ensures { IsUsed board.now pass.new }
-{
-    if board.draw(pass, id) {
-        Some(board.retire(pass, id))
-    } else {
-        None
-    }
-}

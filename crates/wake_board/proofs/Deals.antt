@@ -20,10 +20,11 @@ use Rattle.wake_board.specs.declared.views.View.{View}
 use Rattle.wake_board.specs.Rows.{WordRow, task_word}
 use Rattle.wake_board.specs.Start.{start_of, task_by, state_by}
 use Rattle.wake_board.specs.Rule.{IsKept}
-use Rattle.wake_board.specs.Seen.{Held, view_left, view_right, view_both}
-use Rattle.wake_board.specs.Own.{Carries, held_by, IsPass}
+use Rattle.wake_board.specs.Seen.{takes_seen, Held, view_left, view_right, view_both}
+use Rattle.wake_board.specs.Outs.{Carries}
+use Rattle.wake_board.specs.Own.{held_by, IsPass}
 use Rattle.wake_board.specs.Ends.{fresh}
-use Rattle.wake_board.specs.Gathered.{takes_seen, IsTaken, IsSeatOf, Gathers}
+use Rattle.wake_board.specs.Gathered.{IsTaken, IsSeatOf, Gathers}
 use Rattle.wake_board.proofs.Opens.{task_at-state_by, length-tasks_by}
 use Rattle.wake_board.proofs.Splits.{splits}
 use Rattle.wake_board.proofs.Tables.{at_behind, at_front}
@@ -54,6 +55,7 @@ IsPass-fresh o me new first n takes is right t =
       slots = tt;
       sized = t.sized;
       known = λ i l home worker. t.each i l ∙ (let z : (task_at (start_of o).state i).takes ≡ (task_at (start_of o).state i).takes + 0 = omega arith in z);
+      drawn = λ j x out drew. absurd (table.some-ne-none x (sym out));
     } in
     subst (IsPass first takes) (sym (right_from o me new first n is right)) there
 

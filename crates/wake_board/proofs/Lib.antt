@@ -1,8 +1,13 @@
+pub mod BodySteps
 pub mod Boxes
 pub mod Deals
+pub mod Drawings
 pub mod Draws
 pub mod Ends
+pub mod Fronts
 pub mod Grown
+pub mod Houses
+pub mod Housing
 pub mod Joins
 pub mod Known
 pub mod Looks
@@ -14,5 +19,6 @@ pub mod Runs
 pub mod Seats
 pub mod Splits
 pub mod Tables
+pub mod Takings
 pub mod Tasks
 pub mod Wakes

@@ -26,9 +26,9 @@ use Rattle.wake_board.specs.declared.views.Out.{Out}
 use Rattle.wake_board.specs.declared.views.View.{View}
 use Rattle.step_tables.specs.Nexts.{row_after}
 use Rattle.wake_board.specs.Start.{Start, start_of, start_in, IsShared}
-use Rattle.wake_board.specs.Rule.{now_of, IsHomed, TakesAtHome, IsPaced, Leads, gain, IsOut, Housed, IsKept}
+use Rattle.wake_board.specs.Rule.{now_of, IsHomed, TakesAtHome, IsPaced, Leads, gain, IsOut, IsAway, Housed, IsKept}
 use Rattle.wake_board.specs.Seen.{entry_by, own_log, logged, own_view}
-use Rattle.wake_board.specs.Own.{NoBody}
+use Rattle.wake_board.specs.Outs.{NoBody}
 use Rattle.wake_board.proofs.Tasks.{OneTask, one-after, worded-one, each_part, IsAway-set}
 use Rattle.wake_board.proofs.Moves.{own_first, kept-call}
 use Rattle.wake_board.proofs.Wakes.{named-now}
@@ -100,6 +100,41 @@ housed-free o owner m m' homes views id v w i u r one free kept at outs =
                 ((λ e. lives (ap (λ (t : TaskState). t.place) same ∙ e)), ap (λ (t : TaskState). t.takes) same))
           ] in
           ⊎_elim (λ h. inl (h.0, h.1, (h.2.0 ∙ sym before.1, h.2.1 ∙ ap (row_after o.nexts j) (sym before.1)))) (λ a. inr (IsAway-set views id v w j at outs a)) (r.bodies j l shared before.0);
+    }
+
+-- a task whose body is out with the seat that leads it is taken: bodies stay where they are
+pub housed-taken : (o : Start) (owner : ℕ → ℕ) (m m' : State) (homes : List (Option Body)) (views : List View) (id : ℕ) (v w : View) (i : ℕ) (u : TaskState) → Housed o owner m homes views → OneTask m m' i u → get_elem? views id ≡ some v → w.outs ≡ v.outs → IsAway views i → ((p : ℕ) → Leads owner p (task_at m i).place → Leads owner p u.place) → ((n : ℕ) → (task_at m i).takes ≡ n + gain (task_at m i).place → u.takes ≡ n + gain u.place) → Housed o owner m' homes (set views id w)
+housed-taken o owner m m' homes views id v w i u r one at outs away leads grown =
+    let out_view = each_part (λ (q : View). q.outs) (λ p l. (j : ℕ) (x : Out) → get_elem? l j ≡ some x → IsOut o owner m homes p x) views id v w at outs (λ p q a j x. r.outs p q j x a) in
+    let apart_view = each_part (λ (q : View). q.outs) (λ p l. (j k : ℕ) (x y : Out) → get_elem? l j ≡ some x → get_elem? l k ≡ some y → x.task ≡ y.task → j ≡ k) views id v w at outs (λ p q a j k x y. r.apart p q j k x y a) in
+    record {
+      outs = λ p q j x a b.
+          let is = out_view p q a j x b in
+          elim (cases_eq x.task i) [
+            | inl here ↦ record {
+              exists = is.exists;
+              shared = is.shared;
+              leads = subst (λ (n : ℕ). Leads owner p (task_at m' n).place) (sym here) (subst (λ (t : TaskState). Leads owner p t.place) (sym one.here) (leads p (subst (λ (n : ℕ). Leads owner p (task_at m n).place) here is.leads)));
+              takes = subst (λ (n : ℕ). (task_at m' n).takes ≡ x.takes + gain (task_at m' n).place) (sym here) (subst (λ (t : TaskState). t.takes ≡ x.takes + gain t.place) (sym one.here) (grown x.takes (subst (λ (n : ℕ). (task_at m n).takes ≡ x.takes + gain (task_at m n).place) here is.takes)));
+              away = is.away;
+            }
+            | inr ne ↦ record {
+              exists = is.exists;
+              shared = is.shared;
+              leads = subst (λ (t : TaskState). Leads owner p t.place) (sym (one.others x.task ne)) is.leads;
+              takes = subst (λ (t : TaskState). t.takes ≡ x.takes + gain t.place) (sym (one.others x.task ne)) is.takes;
+              away = is.away;
+            }
+          ];
+      apart = λ p q j k x y a. apart_view p q a j k x y;
+      bodies = λ j l shared lives.
+          elim (cases_eq j i) [
+            | inl here ↦ inr (subst (IsAway (set views id w)) (sym here) (IsAway-set views id v w i at outs away))
+            | inr ne ↦
+                (let same = one.others j ne in
+                let takes : (task_at m' j).takes ≡ (task_at m j).takes = ap (λ (t : TaskState). t.takes) same in
+                ⊎_elim (λ h. inl (h.0, h.1, (h.2.0 ∙ sym takes, h.2.1 ∙ ap (row_after o.nexts j) (sym takes)))) (λ a. inr (IsAway-set views id v w j at outs a)) (r.bodies j l shared (λ gone'. lives (ap (λ (t : TaskState). t.place) same ∙ gone'))))
+          ];
     }
 
 -- nobody leads a task in hands, and one that is led has its body out with its leader alone

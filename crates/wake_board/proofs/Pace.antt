@@ -94,7 +94,7 @@ takes_sum s (e ∷ h) i l =
     let all = sum_more F G (suc s.workers) e.caller.0 (bit (is_take i e.call)) (omega arith) here others in
     ap (λ (n : ℕ). bit (is_take i e.call) + n) more ∙ sym all
 
-seen_takes : (p : Place) (t : TaskState) (st : Stand) (n : ℕ) (b : Bool) (m : ℕ) → seen_at p t ≡ views.Live st n b m → (t.takes ≡ m) × (p ≢ places.Gone)
+pub seen_takes : (p : Place) (t : TaskState) (st : Stand) (n : ℕ) (b : Bool) (m : ℕ) → seen_at p t ≡ views.Live st n b m → (t.takes ≡ m) × (p ≢ places.Gone)
 seen_takes places.Rest t st n b m e = (cc, λ z. cc)
 seen_takes (places.Hands k) t st n b m e = (cc, λ z. cc)
 seen_takes (places.Boxed c) t st n b m e = (cc, λ z. cc)
@@ -102,21 +102,26 @@ seen_takes (places.Drawn k) t st n b m e = (cc, λ z. cc)
 seen_takes (places.Runs k) t st n b m e = (cc, λ z. cc)
 seen_takes places.Gone t st n b m e = cc
 
-pub has_room : (o : Opening) (s : table.State Body View) (i : ℕ) (st : Stand) (n : ℕ) (b : Bool) (t : ℕ) → IsKept o s → i < length (start_of o).state.tasks → IsShared (start_of o) i → seen_in (get_or s.words (i + 1) 0) ≡ views.Live st n b t → t < 2 ^ 48 - 1
-has_room o s i st n b t r within shared seen =
-    let m : State = now_of (start_of o) r.history in
-    let x : TaskState = task_at m i in
-    let next : i + 1 ≡ suc i = omega arith in
-    let is : seen_in (get_or s.words (suc i) 0) ≡ seen_of x = seen_in-stands (get_or s.words (suc i) 0) (seen_of x) (r.words.tasks i within) in
-    let here : seen_of x ≡ views.Live st n b t = sym is ∙ (ap (λ (k : ℕ). seen_in (get_or s.words k 0)) (sym next) ∙ seen) in
-    let parts = seen_takes x.place x st n b t here in
-    let first : (task_at (start_of o).state i).place ≢ places.Gone = λ z. parts.1 (gone-led (start_of o).state r.history i r.legal z) in
+-- the takes of a shared task that is not gone
+pub few_takes : (o : Opening) (s : table.State Body View) (r : IsKept o s) (i : ℕ) → i < length (start_of o).state.tasks → IsShared (start_of o) i → (task_at (now_of (start_of o) r.history) i).place ≢ places.Gone → (task_at (now_of (start_of o) r.history) i).takes < 2 ^ 48 - 1
+few_takes o s r i within shared lives =
+    let first : (task_at (start_of o).state i).place ≢ places.Gone = λ z. lives (gone-led (start_of o).state r.history i r.legal z) in
     let few = r.few i within shared first in
-    let led' = takes-led (start_of o).state r.history i r.legal parts.1 in
+    let led' = takes-led (start_of o).state r.history i r.legal lives in
     let sum = takes_sum (start_of o).state r.history i r.legal in
     let w : ℕ = (start_of o).state.workers in
     let narrow : w ≤ 64 = r.opened.few in
     let bound = sum_bound (λ k. takes_in i (calls_of k r.history)) (suc w) (λ k. (let p = paced_takes (start_of o) 0 i (calls_of k r.history) shared (r.paced k) in omega arith)) in
-    let takes = parts.0 in
     let top : suc w * 2 ^ 40 ≤ 65 * 2 ^ 40 = omega arith in
+    omega arith
+
+pub has_room : (o : Opening) (s : table.State Body View) (i : ℕ) (st : Stand) (n : ℕ) (b : Bool) (t : ℕ) → IsKept o s → i < length (start_of o).state.tasks → IsShared (start_of o) i → seen_in (get_or s.words (i + 1) 0) ≡ views.Live st n b t → t < 2 ^ 48 - 1
+has_room o s i st n b t r within shared seen =
+    let x : TaskState = task_at (now_of (start_of o) r.history) i in
+    let next : i + 1 ≡ suc i = omega arith in
+    let is : seen_in (get_or s.words (suc i) 0) ≡ seen_of x = seen_in-stands (get_or s.words (suc i) 0) (seen_of x) (r.words.tasks i within) in
+    let here : seen_of x ≡ views.Live st n b t = sym is ∙ (ap (λ (k : ℕ). seen_in (get_or s.words k 0)) (sym next) ∙ seen) in
+    let parts = seen_takes x.place x st n b t here in
+    let few = few_takes o s r i within shared parts.1 in
+    let takes = parts.0 in
     omega arith

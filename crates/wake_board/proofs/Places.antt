@@ -3,6 +3,7 @@ use Rattle.std.proofs.Common.{◌≡◌, ◌≢◌, ◌⊎◌, ℕ, suc, ◌+◌
 use Rattle.std.proofs.lemmas.Bool.{cases_lt}
 use Rattle.std.proofs.lemmas.Bool.Decides.{nat_tests}
 use Rattle.atomic_table.specs.Table as table
+use Rattle.sched_base.specs.declared.names.CallerId.{CallerId}
 use Rattle.task_machine.specs.declared.task.Place.{Place}
 use Rattle.task_machine.specs.declared.task.Place.TheVariants as places
 use Rattle.task_machine.specs.declared.task.Stand.{Stand}
@@ -54,7 +55,7 @@ module _ (o : Opening) (s : table.State Body View) (r : IsKept o s) (i : ℕ) (w
         | inr le ↦ le
       ]
 
-  by_seat : (k : ℕ) (own : Own) → k ≤ w → own_at k t.place ≡ own → HasBy o s.views k i own
+  pub by_seat : (k : ℕ) (own : Own) → k ≤ w → own_at k t.place ≡ own → HasBy o s.views k i own
   by_seat k own near h =
       let q = r.seated k near in
       let l = r.logs q.seat q.view q.place q.log q.at q.found in
@@ -84,8 +85,19 @@ module _ (o : Opening) (s : table.State Body View) (r : IsKept o s) (i : ℕ) (w
   is_there (places.Runs k) h = runs_by k.0 t.place (by_state k.0 running h)
   is_there places.Gone h = absurd h
 
-  own_one : (k : ℕ) (own : Own) → (if k == k then own else away) ≡ own
+  pub own_one : (k : ℕ) (own : Own) → (if k == k then own else away) ≡ own
   own_one k own = ap (λ (b : Bool). if b then own else away) (eq-eqb k k refl)
+
+  -- who runs a task, or has drawn it, is a caller
+  pub runner_near : (k : CallerId) → t.place ≡ places.Runs k → k.0 ≤ w
+  runner_near k e =
+      let has : own_at k.0 t.place ≡ running = ap (own_at k.0) e ∙ own_one k.0 running in
+      is_caller k.0 running (λ z. cc) has (λ far h. never_run w (home_of (start_of o) i) (get_or o.holders.items i 0) k.0 first (r.opened.placed i (omega (arith, r.opened.count))) h)
+
+  pub drawer_near : (k : CallerId) → t.place ≡ places.Drawn k → k.0 ≤ w
+  drawer_near k e =
+      let has : own_at k.0 t.place ≡ drawing = ap (own_at k.0) e ∙ own_one k.0 drawing in
+      is_caller k.0 drawing (λ z. cc) has (λ far h. never_drawn w (home_of (start_of o) i) (get_or o.holders.items i 0) k.0 first (r.opened.placed i (omega (arith, r.opened.count))) h)
 
   -- a live task with something to run for is had where it is
   is_had : (p : Place) (st : Stand) (n : ℕ) (b : Bool) (m : ℕ) → t.place ≡ p → seen_at p t ≡ views.Live st n b m → is_busy t ≡ true → IsHadAt o s i p

@@ -1,5 +1,5 @@
 -- The steps of a take, of the end of a run and of a retirement.
-use Rattle.std.proofs.Common.{◌≡◌, ◌≢◌, ◌⊎◌, ℕ, suc, ◌+◌, ◌-◌, ◌^◌, ◌<◌, Bool, true, false, ◌==◌, ◌||◌, if◌then◌else◌, [], ◌∷◌, length, get_or, bit_and, refl, sym, ap, subst, ◌∙◌, inl, inr, arith, eq-eqb, eqb-true}
+use Rattle.std.proofs.Common.{◌≡◌, ◌≢◌, ◌⊎◌, ℕ, suc, ◌+◌, ◌-◌, ◌^◌, ◌<◌, Bool, true, false, ◌==◌, ◌||◌, if◌then◌else◌, [], ◌∷◌, length, get_or, set, bit_and, refl, sym, ap, subst, ◌∙◌, inl, inr, arith, eq-eqb, eqb-true}
 use mathlib.Core.Option.{some, none}
 use lib.ListN.{get_elem?}
 use Rattle.atomic_table.specs.Table as table
@@ -12,25 +12,27 @@ use Rattle.task_machine.specs.declared.calls.Call.{Call}
 use Rattle.task_machine.specs.declared.calls.Call.TheVariants as calls
 use Rattle.task_machine.specs.declared.calls.Reply.TheVariants as replies
 use Rattle.task_machine.specs.declared.calls.Entry.{Entry}
-use Rattle.task_machine.specs.Task.{gone, is_busy, is_boxed, in_hands, in_draw, in_run, seen_of, taken, dropped}
+use Rattle.task_machine.specs.Task.{gone, is_busy, is_boxed, in_hands, in_draw, in_run, seen_of, seen_at, taken, dropped}
 use Rattle.task_machine.specs.Step.{State, task_at}
 use Rattle.task_machine.specs.History.{stepped}
 use Rattle.task_machine.specs.Own.{away, holding, drawing, running, own_at}
 use Rattle.task_word.specs.Word.{seen_in, StandsFor, drop_mask, taken_word}
-use Rattle.task_word.proofs.Words.{dropped_follows}
+use Rattle.task_word.proofs.Words.{dropped_follows, seen_in-stands}
 use Rattle.wake_board.specs.declared.body.Body.{Body}
 use Rattle.wake_board.specs.declared.views.Opening.{Opening}
 use Rattle.wake_board.specs.declared.views.View.{View}
 use Rattle.wake_board.specs.Start.{Start, start_of, home_of, IsShared}
-use Rattle.wake_board.specs.Rule.{now_of, IsHomed, Leads, IsKept}
-use Rattle.wake_board.specs.Seen.{entry_by, own_log, logged, own_view, Told, TellsCall}
-use Rattle.wake_board.specs.Own.{takes_in, known_takes, NoBody}
+use Rattle.wake_board.specs.Rule.{now_of, IsHomed, IsPaced, Leads, gain, IsAway, Housed, IsKept}
+use Rattle.wake_board.specs.Outs.{out_of, HasBody, NoBody}
+use Rattle.wake_board.specs.Seen.{entry_by, own_log, logged, own_view, Told, TellsCall, takes_seen, TellsTake}
+use Rattle.wake_board.specs.Own.{takes_in, known_takes}
 use Rattle.wake_board.proofs.Moves.{own_first, attests-call}
-use Rattle.wake_board.proofs.Looks.{LookStep, look-kept, own-now, housed-free, free_led, free_own}
+use Rattle.wake_board.proofs.Tasks.{OneTask}
+use Rattle.wake_board.proofs.Looks.{LookStep, look-kept, own-now, housed-free, housed-taken, free_led, free_own}
 use Rattle.wake_board.proofs.Known.{takes-led, takes_in-home}
 
 -- a caller by its number
-abbrev caller : ℕ → CallerId
+abbrev pub caller : ℕ → CallerId
 caller k = record { 0 = k }
 
 same_caller : (k : ℕ) (j : CallerId) → (j.0 == k) ≡ true → j ≡ caller k
@@ -126,18 +128,50 @@ known-now o s r id v i at one lives home own =
     let mine = own_first o s r id v at one in
     takes-led (start_of o).state r.history i r.legal lives ∙ ap (λ (n : ℕ). (task_at (start_of o).state i).takes + n) (takes_in-home (start_of o) (caller v.first) r.history i r.takes home own ∙ ap (takes_in i) mine.2)
 
-pub takes_at : (o : Opening) (slots id : ℕ) (me : table.Me Body View) (i takes : ℕ) → me.0.logs ≡ own_log me.0.logs ∷ [] → i < length (start_of o).state.tasks → own_view me.0 i ≡ holding → home_of (start_of o) i ≡ me.0.first → me.0.first < (start_of o).state.workers → takes ≡ known_takes (start_of o) (own_log me.0.logs) i → takes < 2 ^ 48 - 1 → table.Allows (IsKept o) slots id me (suc i) (λ n. taken_word takes) (TellsCall calls.Take (table.step slots (suc i) (taken_word takes) 0 none) me)
-takes_at o slots id me i takes one within held home worker known small s r sized at wide =
+seen_takes : (p : Place) (t : TaskState) → p ≢ places.Gone → takes_seen (seen_at p t) ≡ t.takes
+seen_takes places.Rest t h = refl
+seen_takes (places.Hands k) t h = refl
+seen_takes (places.Boxed b) t h = refl
+seen_takes (places.Drawn k) t h = refl
+seen_takes (places.Runs k) t h = refl
+seen_takes places.Gone t h = absurd (h refl)
+
+-- what a take told, for the task and the takes that its word and operand name
+tells_take : (slots id : ℕ) (me new : table.Me Body View) (i takes n : ℕ) → Told me (calls.Take (record { 0 = i })) (replies.Task (seen_in n)) new → takes_seen (seen_in n) ≡ takes → TellsTake (table.step slots (suc i) (taken_word takes) 0 none) me n new
+tells_take slots id me new i takes n t saw j u word operand =
+    let same : i ≡ j = omega arith in
+    let often : takes ≡ u = omega arith in
+    (subst (λ (y : ℕ). Told me (calls.Take (record { 0 = y })) (replies.Task (seen_in n)) new) same t, saw ∙ often)
+
+-- the step of a take, where the caller may take the task, which has these takes
+taking : (o : Opening) (slots id : ℕ) (me : table.Me Body View) (i takes : ℕ) (s : table.State Body View) (r : IsKept o s) → get_elem? s.views id ≡ some me.0 → me.0.logs ≡ own_log me.0.logs ∷ [] → i < length (start_of o).state.tasks → (let m : State = now_of (start_of o) r.history in
+    let t : TaskState = task_at m i in
+    let e : Entry = entry_by me.0.first (calls.Take (record { 0 = i })) (replies.Task (seen_in (get_or s.words (suc i) 0))) in
+    LookStep (start_of o) m (caller me.0.first) (calls.Take (record { 0 = i })) t (taken (caller me.0.first) t) (taken_word takes) → t.place ≢ places.Gone → t.takes ≡ takes → IsPaced (start_of o) (length (own_log me.0.logs)) (calls.Take (record { 0 = i })) → (OneTask m (stepped m e) i (taken (caller me.0.first) t) → Housed (start_of o) r.owner (stepped m e) s.homes (set s.views id (logged me.0 e))) → (w : View) × (a : table.Act Body) × table.Valid s.homes me.1 a × IsKept o (table.stepped s (suc i) (taken_word takes) id me.1 w a) × TellsTake (table.step slots (suc i) (taken_word takes) 0 none) me (get_or s.words (suc i) 0) (w, table.carried_after me.1 a))
+taking o slots id me i takes s r at one within step lives now pace housed =
+    let v : View = me.0 in
+    let k : CallerId = caller v.first in
+    let c : Call = calls.Take (record { 0 = i }) in
+    let t : TaskState = task_at (now_of (start_of o) r.history) i in
+    let n : ℕ = get_or s.words (suc i) 0 in
+    let e : Entry = entry_by v.first c (replies.Task (seen_in n)) in
+    let made = look-kept o s r id v c (taken k t) (taken_word takes) at one within step pace housed in
+    let seen : seen_in n ≡ seen_of t = seen_in-stands n (seen_of t) (r.words.tasks i within) in
+    let saw : takes_seen (seen_in n) ≡ takes = ap takes_seen seen ∙ (seen_takes t.place t lives ∙ now) in
+    (logged v e, table.keeps, tt, made.1, tells_take slots id me (logged v e, me.1) i takes n (record { seat = refl; attested = attests-call o s r id v c (replies.Task (seen_in n)) at one made.0 }) saw)
+
+takes_own : (o : Opening) (slots id : ℕ) (me : table.Me Body View) (i takes : ℕ) → me.0.logs ≡ own_log me.0.logs ∷ [] → i < length (start_of o).state.tasks → own_view me.0 i ≡ holding → home_of (start_of o) i ≡ me.0.first → me.0.first < (start_of o).state.workers → takes ≡ known_takes (start_of o) (own_log me.0.logs) i → takes < 2 ^ 48 - 1 → table.Allows (IsKept o) slots id me (suc i) (λ n. taken_word takes) (TellsTake (table.step slots (suc i) (taken_word takes) 0 none) me)
+takes_own o slots id me i takes one within held home worker known small s r sized at wide =
     let v : View = me.0 in
     let k : CallerId = caller v.first in
     let c : Call = calls.Take (record { 0 = i }) in
     let m : State = now_of (start_of o) r.history in
     let t : TaskState = task_at m i in
-    let n : ℕ = get_or s.words (suc i) 0 in
-    let e : Entry = entry_by v.first c (replies.Task (seen_in n)) in
+    let e : Entry = entry_by v.first c (replies.Task (seen_in (get_or s.words (suc i) 0))) in
     let own : ¬ IsShared (start_of o) i = λ h. omega arith in
     let place : t.place ≡ places.Hands k = hands_by v.first t.place (own-now o s r id v i at one ∙ held) in
-    let now : t.takes ≡ takes = known-now o s r id v i at one (λ gone'. (let z = sym place ∙ gone' in cc)) home own ∙ sym known in
+    let lives : t.place ≢ places.Gone = λ gone'. (let z = sym place ∙ gone' in cc) in
+    let now : t.takes ≡ takes = known-now o s r id v i at one lives home own ∙ sym known in
     let step : LookStep (start_of o) m k c t (taken k t) (taken_word takes) = record {
       no_get = no_get_take i;
       named = refl;
@@ -150,8 +184,43 @@ takes_at o slots id me i takes one within held home worker known small s r sized
       homed = tt;
       home = inl home;
     } in
-    let made = look-kept o s r id v c (taken k t) (taken_word takes) at one within step (λ shared. absurd (own shared)) (λ one_task. housed-free (start_of o) r.owner m (stepped m e) s.homes s.views id v (logged v e) i (taken k t) r.housed one_task (free_own (start_of o) r.owner m s.homes s.views i own) (λ shared lives. absurd (own shared)) at refl) in
-    (logged v e, table.keeps, tt, made.1, tells calls.Take slots id me (logged v e, me.1) i (taken_word takes) n (record { seat = refl; attested = attests-call o s r id v c (replies.Task (seen_in n)) at one made.0 }))
+    taking o slots id me i takes s r at one within step lives now (λ shared. absurd (own shared)) (λ one_task. housed-free (start_of o) r.owner m (stepped m e) s.homes s.views id v (logged v e) i (taken k t) r.housed one_task (free_own (start_of o) r.owner m s.homes s.views i own) (λ shared live. absurd (own shared)) at refl)
+
+-- what the takes of a body that is out tell, by the place of its task
+pub drawn_gain : (k : CallerId) (p : Place) (n m : ℕ) → p ≡ places.Drawn k → n ≡ m + gain p → n ≡ m
+drawn_gain k p n m place h =
+    let z : n ≡ m + 0 = subst (λ (q : Place). n ≡ m + gain q) place h in omega arith
+
+taken_gain : (k : CallerId) (t : TaskState) (m : ℕ) → t.place ≡ places.Drawn k → t.takes ≡ m + gain t.place → (taken k t).takes ≡ m + 1
+taken_gain k t m place h =
+    let z = drawn_gain k t.place t.takes m place h in omega arith
+
+takes_drawn : (o : Opening) (slots id : ℕ) (me : table.Me Body View) (i takes : ℕ) → me.0.logs ≡ own_log me.0.logs ∷ [] → i < length (start_of o).state.tasks → own_view me.0 i ≡ drawing → HasBody me.0.outs i takes → length (own_log me.0.logs) < 2 ^ 40 → takes < 2 ^ 48 - 1 → table.Allows (IsKept o) slots id me (suc i) (λ n. taken_word takes) (TellsTake (table.step slots (suc i) (taken_word takes) 0 none) me)
+takes_drawn o slots id me i takes one within drew out early small s r sized at wide =
+    let v : View = me.0 in
+    let k : CallerId = caller v.first in
+    let c : Call = calls.Take (record { 0 = i }) in
+    let m : State = now_of (start_of o) r.history in
+    let t : TaskState = task_at m i in
+    let e : Entry = entry_by v.first c (replies.Task (seen_in (get_or s.words (suc i) 0))) in
+    let place : t.place ≡ places.Drawn k = drawn_by v.first t.place (own-now o s r id v i at one ∙ drew) in
+    let lives : t.place ≢ places.Gone = λ gone'. (let z = sym place ∙ gone' in cc) in
+    let is = r.housed.outs id v out.0 (out_of i takes) at out.1 in
+    let now : t.takes ≡ takes = drawn_gain k t.place t.takes takes place is.takes in
+    let step : LookStep (start_of o) m k c t (taken k t) (taken_word takes) = record {
+      no_get = no_get_take i;
+      named = refl;
+      fit = subst (λ (p : Place). (in_hands k p || in_draw k p) ≡ true) (sym place) (eq-eqb v.first v.first refl);
+      room = omega arith;
+      reply = refl;
+      change = refl;
+      stands = taken_follows k t takes now small;
+      boxed = λ b. subst (λ (p : Place). false ≡ is_boxed b p) (sym place) refl;
+      homed = tt;
+      home = inr is.shared;
+    } in
+    let away : IsAway s.views i = (id, v, out.0, out_of i takes, at, out.1, refl) in
+    taking o slots id me i takes s r at one within step lives now (λ shared. early) (λ one_task. housed-taken (start_of o) r.owner m (stepped m e) s.homes s.views id v (logged v e) i (taken k t) r.housed one_task at refl away (λ p l. subst (Leads r.owner p) place l) (λ n h. taken_gain k t n place h))
 
 dropped_boxed : (k : CallerId) (busy : Bool) (b : ℕ) → is_boxed b (if busy then places.Hands k else places.Rest) ≡ false
 dropped_boxed k true b = refl
@@ -242,11 +311,19 @@ retires_at o slots id me i one within has none_out s r sized at wide =
     (logged v e, table.keeps, tt, made.1, tells calls.Retire slots id me (logged v e, me.1) i 8 n (record { seat = refl; attested = attests-call o s r id v c (replies.Task (seen_in n)) at one made.0 }))
 
 -- the same at a word and an operand that are these
-pub takes_on : (o : Opening) (slots id : ℕ) (me : table.Me Body View) (i x takes word : ℕ) → me.0.logs ≡ own_log me.0.logs ∷ [] → i < length (start_of o).state.tasks → own_view me.0 i ≡ holding → home_of (start_of o) i ≡ me.0.first → me.0.first < (start_of o).state.workers → takes ≡ known_takes (start_of o) (own_log me.0.logs) i → takes < 2 ^ 48 - 1 → x ≡ i + 1 → word ≡ taken_word takes → table.Allows (IsKept o) slots id me x (λ n. word) (TellsCall calls.Take (table.step slots x word 0 none) me)
-takes_on o slots id me i x takes word one within held home worker known small place is =
+takes_at : (o : Opening) (slots id : ℕ) (me : table.Me Body View) (i x takes word : ℕ) → table.Allows (IsKept o) slots id me (suc i) (λ n. taken_word takes) (TellsTake (table.step slots (suc i) (taken_word takes) 0 none) me) → x ≡ i + 1 → word ≡ taken_word takes → table.Allows (IsKept o) slots id me x (λ n. word) (TellsTake (table.step slots x word 0 none) me)
+takes_at o slots id me i x takes word allows place is =
     let at : x ≡ suc i = omega arith in
-    let P : ℕ → ℕ → Type 0 = λ y b. table.Allows (IsKept o) slots id me y (λ n. b) (TellsCall calls.Take (table.step slots y b 0 none) me) in
-    subst (λ (y : ℕ). P y word) (sym at) (subst (P (suc i)) (sym is) (takes_at o slots id me i takes one within held home worker known small))
+    let P : ℕ → ℕ → Type 0 = λ y b. table.Allows (IsKept o) slots id me y (λ n. b) (TellsTake (table.step slots y b 0 none) me) in
+    subst (λ (y : ℕ). P y word) (sym at) (subst (P (suc i)) (sym is) allows)
+
+pub takes_own_on : (o : Opening) (slots id : ℕ) (me : table.Me Body View) (i x takes word : ℕ) → me.0.logs ≡ own_log me.0.logs ∷ [] → i < length (start_of o).state.tasks → own_view me.0 i ≡ holding → home_of (start_of o) i ≡ me.0.first → me.0.first < (start_of o).state.workers → takes ≡ known_takes (start_of o) (own_log me.0.logs) i → takes < 2 ^ 48 - 1 → x ≡ i + 1 → word ≡ taken_word takes → table.Allows (IsKept o) slots id me x (λ n. word) (TellsTake (table.step slots x word 0 none) me)
+takes_own_on o slots id me i x takes word one within held home worker known small place is =
+    takes_at o slots id me i x takes word (takes_own o slots id me i takes one within held home worker known small) place is
+
+pub takes_drawn_on : (o : Opening) (slots id : ℕ) (me : table.Me Body View) (i x takes word : ℕ) → me.0.logs ≡ own_log me.0.logs ∷ [] → i < length (start_of o).state.tasks → own_view me.0 i ≡ drawing → HasBody me.0.outs i takes → length (own_log me.0.logs) < 2 ^ 40 → takes < 2 ^ 48 - 1 → x ≡ i + 1 → word ≡ taken_word takes → table.Allows (IsKept o) slots id me x (λ n. word) (TellsTake (table.step slots x word 0 none) me)
+takes_drawn_on o slots id me i x takes word one within drew out early small place is =
+    takes_at o slots id me i x takes word (takes_drawn o slots id me i takes one within drew out early small) place is
 
 pub drops_on : (o : Opening) (slots id : ℕ) (me : table.Me Body View) (i x mask : ℕ) → me.0.logs ≡ own_log me.0.logs ∷ [] → i < length (start_of o).state.tasks → own_view me.0 i ≡ running → NoBody me.0.outs i → x ≡ i + 1 → mask ≡ drop_mask → table.Allows (IsKept o) slots id me x (λ n. bit_and n mask) (TellsCall calls.DropRun (table.step slots x mask 0 none) me)
 drops_on o slots id me i x mask one within runs none_out place is =

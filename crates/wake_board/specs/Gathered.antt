@@ -21,11 +21,6 @@ pub record IsOpening (o : Opening) (ws : WordRow) (hs ks : List ℕ) (rows : Lis
   pub holders : o.holders.items ≡ ks
   pub nexts : o.nexts.value ≡ rows
 
--- how often a task was taken by what is seen of it
-abbrev pub takes_seen : Seen → ℕ
-takes_seen views.Gone = 0
-takes_seen (views.Live st n b m) = m
-
 -- the takes of each task at the opening
 pub record IsTaken (o : Start) (takes : List ℕ) : Type 0 where
   pub sized : length takes ≡ length o.state.tasks

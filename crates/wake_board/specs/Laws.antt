@@ -19,10 +19,12 @@ use Rattle.task_machine.specs.Own.{Own, holding, drawing, running, own_at, own_n
 use Rattle.task_word.specs.Word.{seen_in}
 use Rattle.wake_board.specs.declared.body.Body.{Body}
 use Rattle.wake_board.specs.declared.views.Opening.{Opening}
+use Rattle.wake_board.specs.declared.views.Out.{Out}
 use Rattle.wake_board.specs.declared.views.View.{View}
 use Rattle.wake_board.specs.Rows.{WordRow, width, box_at, task_word, box_word, blank_row, row_seated, row_dealt}
 use Rattle.wake_board.specs.Start.{start_of, IsShared, no_holder}
-use Rattle.wake_board.specs.Between.{StandBetween}
+use Rattle.wake_board.specs.Outs.{gained}
+use Rattle.wake_board.specs.Between.{BodyFits, StandBetween}
 use Rattle.wake_board.specs.Rule.{IsKept}
 use Rattle.wake_board.specs.Seen.{Held, entry_by, Calls}
 use Rattle.wake_board.specs.Own.{known_takes}
@@ -88,3 +90,34 @@ pub record CallsTellOwn : Type 0 where
 abbrev pub SharedTasksHaveRoom : Type 0
 SharedTasksHaveRoom =
     (o : Opening) (s : table.State Body View) (i : ℕ) (st : Stand) (n : ℕ) (b : Bool) (t : ℕ) → IsKept o s → i < length (start_of o).state.tasks → IsShared (start_of o) i → seen_in (slice_index s.words (i + 1)) ≡ views.Live st n b t → t < 2 ^ 48 - 1
+
+-- the body of task i is at home, with t takes and the row that comes after so many
+abbrev pub IsHomeWith : Opening → table.State Body View → ℕ → ℕ → Type 0
+IsHomeWith o s i t =
+    (body : Body) × (get_elem? s.homes i ≡ some (some body)) × BodyFits (start_of o).nexts i body t
+
+-- a body of task i is out with seat p
+pub record IsOutAt (s : table.State Body View) (p i : ℕ) (x : Out) : Type 0 where
+  pub view : View
+  pub place : ℕ
+  pub at : get_elem? s.views p ≡ some view
+  pub found : get_elem? view.outs place ≡ some x
+  pub task : x.task ≡ i
+
+-- the body of task i is out with the seat of the caller that has drawn the task or runs it; the takes with which it went out
+-- tell its takes t
+pub record IsOutWithHolder (o : Opening) (s : table.State Body View) (i t : ℕ) : Type 0 where
+  pub out : Out
+  pub caller : ℕ
+  pub has : Own
+  pub holder : HasBy o s.views caller i has
+  pub leads : (has ≡ drawing) ⊎ (has ≡ running)
+  pub away : IsOutAt s holder.seat i out
+  pub takes : t ≡ out.takes + gained has
+
+-- between any two steps the body of a shared task that is not gone is at home, with the task's takes and the row that comes
+-- after so many, or out with the pass that has drawn the task or runs it; and not in two places
+pub record BodiesAreInOnePlace : Type 0 where
+  pub somewhere : (o : Opening) (s : table.State Body View) (i : ℕ) (st : Stand) (n : ℕ) (b : Bool) (t : ℕ) → IsKept o s → i < length (start_of o).state.tasks → IsShared (start_of o) i → seen_in (slice_index s.words (i + 1)) ≡ views.Live st n b t → IsHomeWith o s i t ⊎ IsOutWithHolder o s i t
+  pub once : (o : Opening) (s : table.State Body View) (i p q : ℕ) (x y : Out) → IsKept o s → IsOutAt s p i x → IsOutAt s q i y → (p ≡ q) × (x ≡ y)
+  pub not_both : (o : Opening) (s : table.State Body View) (i t p : ℕ) (x : Out) → IsKept o s → IsHomeWith o s i t → ¬ IsOutAt s p i x

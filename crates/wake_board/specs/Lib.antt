@@ -1,4 +1,5 @@
 pub mod Rows
+pub mod Outs
 pub mod Between
 pub mod Start
 pub mod Rule
@@ -6,5 +7,6 @@ pub mod Seen
 pub mod Own
 pub mod Sized
 pub mod Ends
+pub mod Bodies
 pub mod Gathered
 pub mod Laws

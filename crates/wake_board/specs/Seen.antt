@@ -1,11 +1,13 @@
 -- What a pass and a board are to contracts, and what one call tells (docs/BOARD.md, "Passes").
-use Rattle.std.specs.Prelude.{◌≡◌, ◌≢◌, ℕ, zero, suc, ◌+◌, ◌*◌, ◌/◌, ◌%◌, ◌^◌, ◌<◌, ◌≤◌, ◌==◌, ◌&&◌, nat_lt, if◌then◌else◌, List, [], ◌∷◌, ◌++◌, length, None}
+use Rattle.std.specs.Prelude.{◌≡◌, ◌≢◌, ℕ, zero, suc, ◌+◌, ◌-◌, ◌*◌, ◌/◌, ◌%◌, ◌^◌, ◌<◌, ◌≤◌, ◌==◌, ◌&&◌, nat_lt, if◌then◌else◌, List, [], ◌∷◌, ◌++◌, length, None}
 use Rattle.std.specs.Int.{bit_at, bit_not, w64}
 use mathlib.Core.Option.{some}
 use lib.ListN.{get_elem?}
 use Rattle.atomic_table.specs.Seated.{TableId}
-use Rattle.atomic_table.specs.Table.{Me, Step}
+use Rattle.atomic_table.specs.Table.{Me, Step, rest}
 use Rattle.sched_base.specs.declared.names.TaskId.{TaskId}
+use Rattle.task_machine.specs.declared.task.Seen.{Seen}
+use Rattle.task_machine.specs.declared.task.Seen.TheVariants as views
 use Rattle.task_machine.specs.declared.calls.Call.{Call}
 use Rattle.task_machine.specs.declared.calls.Call.TheVariants as calls
 use Rattle.task_machine.specs.declared.calls.Reply.{Reply}
@@ -15,12 +17,14 @@ use Rattle.task_machine.specs.Step.{task_at}
 use Rattle.task_machine.specs.declared.task.Place.TheVariants as places
 use Rattle.task_machine.specs.History.{Legal, led, calls_of}
 use Rattle.task_machine.specs.Own.{Own, away, own_at, own_of}
-use Rattle.task_word.specs.Word.{seen_in, wake_bits}
+use Rattle.task_word.specs.Word.{seen_in, wake_bits, taken_word}
 use Rattle.wake_board.specs.declared.body.Body.{Body}
 use Rattle.wake_board.specs.declared.views.Out.{Out}
 use Rattle.wake_board.specs.declared.views.View.{View}
+use Rattle.step_tables.specs.Nexts.{row_after}
 use Rattle.wake_board.specs.Rows.{box_at}
-use Rattle.wake_board.specs.Start.{Start, start_in, home_of}
+use Rattle.wake_board.specs.Start.{Start, start_in, home_of, IsShared}
+use Rattle.wake_board.specs.Outs.{out_of, HasBody, NoBody, without, Carries}
 
 -- a pass: of which board it is, its caller's number, with what the board was opened, its own entries, the tasks that it
 -- found absent from the shared box, and the bodies that are out with it
@@ -86,6 +90,16 @@ TellsCall call st me n new =
 abbrev pub bit_mask : ℕ → ℕ
 bit_mask j = 1 * 2 ^ j % 2 ^ 64
 
+-- how often a task was taken by what is seen of it
+abbrev pub takes_seen : Seen → ℕ
+takes_seen views.Gone = 0
+takes_seen (views.Live st n b m) = m
+
+-- a take by its word and operand, which has the takes that the task then had
+abbrev pub TellsTake : Step Body → Me Body View → ℕ → Me Body View → Type 0
+TellsTake st me n new =
+    (i t : ℕ) → st.word ≡ i + 1 → st.first ≡ taken_word t → Told me (calls.Take (record { 0 = i })) (replies.Task (seen_in n)) new × (takes_seen (seen_in n) ≡ t)
+
 -- how many tasks there are, by a view
 abbrev pub count_in : View → ℕ
 count_in v = length (start_in v.start).state.tasks
@@ -136,10 +150,11 @@ pub record ToldMisses (me : Me Body View) (tasks : List ℕ) (new : Me Body View
 abbrev pub shared_at : View → ℕ → ℕ
 shared_at v g = box_at (count_in v) (start_in v.start).state.workers g
 
--- a draw by its word and operand: the task is drawn where its bit was set, and a miss where it was not
+-- a draw by its word and operand: the task is drawn where its bit was set, and had no body out then; and it is a miss where
+-- the bit was clear
 abbrev pub TellsDraw : Step Body → Me Body View → ℕ → Me Body View → Type 0
 TellsDraw st me n new =
-    (i : ℕ) → i < count_in me.0 → st.word ≡ shared_at me.0 (i / 64) → st.first ≡ bit_not w64 (bit_mask (i % 64)) → (bit_at n (i % 64) ≡ 1 → Told me (calls.Draw (record { 0 = i })) replies.Done new) × (bit_at n (i % 64) ≡ 0 → ToldMisses me (i ∷ []) new)
+    (i : ℕ) → i < count_in me.0 → st.word ≡ shared_at me.0 (i / 64) → st.first ≡ bit_not w64 (bit_mask (i % 64)) → (bit_at n (i % 64) ≡ 1 → Told me (calls.Draw (record { 0 = i })) replies.Done new × NoBody me.0.outs i) × (bit_at n (i % 64) ≡ 0 → ToldMisses me (i ∷ []) new)
 
 -- the tasks of group g, of n tasks in all, whose bits are clear in a word, from bit j on and for so many bits
 abbrev pub clear_from : ℕ → ℕ → ℕ → ℕ → ℕ → List ℕ
@@ -155,6 +170,44 @@ clear_in n g word = clear_from n g word 0 64
 abbrev pub TellsPeep : Step Body → Me Body View → ℕ → Me Body View → Type 0
 TellsPeep st me n new =
     (g : ℕ) → 64 * g < count_in me.0 → st.word ≡ shared_at me.0 g → ToldMisses me (clear_in (count_in me.0) g n) new
+
+-- task i was taken t times: so it was after some legal history from the opening, in which the own calls of the caller are the
+-- entries
+abbrev pub WasTaken : Start → ℕ → List Entry → ℕ → ℕ → Type 0
+WasTaken o k entries i t =
+    (h : List Entry) × Legal o.state h × (calls_of k h ≡ entries) × ((task_at (led o.state h) i).takes ≡ t)
+
+abbrev pub with_out : View → List Out → View
+with_out v outs = record v { outs = outs }
+
+-- what a seat is told that took the slot of task i: it is shared, and its body has its takes, which are few, and their row
+pub record OutTold (me : Me Body View) (i : ℕ) (body : Body) (new : Me Body View) : Type 0 where
+  pub seat : new ≡ (with_out me.0 (out_of i body.takes ∷ me.0.outs), (i, body) ∷ me.1)
+  pub shared : IsShared (start_in me.0.start) i
+  pub row : body.row ≡ row_after (start_in me.0.start).nexts i body.takes
+  pub room : body.takes < 2 ^ 48 - 1
+  pub taken : WasTaken (start_in me.0.start) me.0.first (own_log me.0.logs) i body.takes
+
+abbrev pub TellsOut : ℕ → Step Body → Me Body View → ℕ → Me Body View → Type 0
+TellsOut i st me n new = (body : Body) × OutTold me i body new
+
+-- what a seat is told whose slot of task i came before its others
+pub record FrontTold (me : Me Body View) (i t : ℕ) (new : Me Body View) : Type 0 where
+  pub body : Body
+  pub slots : List (ℕ × Body)
+  pub seat : new ≡ (with_out me.0 (out_of i t ∷ without i me.0.outs), (i, body) ∷ slots)
+  pub carries : Carries slots (without i me.0.outs)
+
+abbrev pub TellsFront : ℕ → Step Body → Me Body View → ℕ → Me Body View → Type 0
+TellsFront i st me n new = (t : ℕ) → HasBody me.0.outs i t → FrontTold me i t new
+
+-- a seat gave back its first slot
+abbrev pub outs_after : List Out → List Out
+outs_after [] = []
+outs_after (x ∷ xs) = xs
+
+abbrev pub TellsBack : Step Body → Me Body View → ℕ → Me Body View → Type 0
+TellsBack st me n new = new ≡ (with_out me.0 (outs_after me.0.outs), rest me.1)
 
 -- a seat with several logs gives up the first
 abbrev pub rest_of : List (List Entry) → List (List Entry)

@@ -2,20 +2,23 @@
 
 ghost use Rattle.std.specs.Prelude.{◌≡◌, ◌≢◌, [], ◌∷◌, true, false, ℕ, ◌+◌, ◌-◌, ◌*◌, ◌^◌, ◌<◌, ◌≤◌, length, IfOk};
 ghost use Rattle.std.specs.Int.{bit_at};
-ghost use Rattle.task_machine.specs.Own.{away, holding, running};
+ghost use Rattle.task_machine.specs.Own.{away, holding, drawing, running};
 ghost use Rattle.task_machine.specs.Step.{State};
 ghost use Rattle.task_machine.specs.declared.calls.Call.TheVariants as calls;
 ghost use Rattle.task_machine.specs.declared.calls.Reply.TheVariants as replies;
 ghost use Rattle.wake_board.specs.Between.{StandBetween, FewTakes};
 ghost use Rattle.wake_board.specs.Start.{home_of};
-ghost use Rattle.wake_board.specs.Own.{known_takes, NoBody};
+ghost use Rattle.step_tables.specs.Nexts.{row_after};
+ghost use Rattle.wake_board.specs.Outs.{NoBody, out_of, without};
+ghost use Rattle.wake_board.specs.Bodies.{with_outs, IsOutWith, MayTake};
 ghost use Rattle.wake_board.specs.Ends.{Opens, AllBack, Finishes, own_by};
-ghost use Rattle.wake_board.specs.Seen.{Calls, Misses, clear_in, IsPassOf};
+ghost use Rattle.wake_board.specs.Seen.{Calls, Misses, WasTaken, takes_seen, clear_in, IsPassOf};
 
 use crate::body::Body;
 use crate::open::{deal_passes, gather, lay, opening_of};
 use crate::pass::Pass;
 use crate::passes::Passes;
+use crate::slots::{slot_in, slot_out};
 use crate::views::{
     Draws, Drops, Gets, Kills, Opening, Peeps, Posts, Retires, Ruling, Takes, View, Wakes,
 };
@@ -23,7 +26,7 @@ use crate::words::Words;
 use atomic_table::Table;
 use sched_base::{Reasons, TaskId};
 use std::alloc::{AllocError, Global};
-use std::marker::Model;
+use std::marker::{Brand, Model};
 use step_tables::Nexts;
 use task_machine::Seen;
 use task_word::{DROP_MASK, GONE, KILL_BITS, after_take, seen_of, wake_bits_of};
@@ -166,15 +169,44 @@ impl Board {
         (word >> (id.0 % GROUP)) & 1 == 1
     }
 
-    /// Takes a task of the caller's own, which is in its hands, to run it.
+    /// Takes the body of a task that the caller has drawn out of its place. From now on the pass knows how often the task
+    /// was taken.
+    pub fn body_out(&self, pass: &mut Pass, id: TaskId) -> Body
+        requires board { IsPassOf self.now pass.old }
+        requires exists { id.0 < length self.now.start.state.tasks }
+        requires drawn { own_by pass.old id.0 ≡ drawing }
+        requires home { NoBody pass.old.outs id.0 }
+        ensures out { pass.new ≡ with_outs pass.old (out_of id.0 result.takes ∷ pass.old.outs) }
+        ensures row { result.row ≡ row_after self.now.start.nexts id.0 result.takes }
+        ensures room { result.takes < 2 ^ 48 - 1 }
+        ensures shared { home_of self.now.start id.0 ≡ self.now.start.state.workers }
+        ensures taken { WasTaken pass.old.start pass.old.who pass.old.entries id.0 result.takes }
+    {
+        let body = slot_out::<Brand>(&self.table.shared, &mut pass.seat, id.0);
+        pass.takes[id.0 as usize] = body.takes;
+        body
+    }
+
+    /// Puts the body of a task, which is out with the pass, back into its place, with the takes that the pass knows and the
+    /// row that comes after so many takes. From now on the pass does not know the takes of this task.
+    pub fn body_in(&self, pass: &mut Pass, id: TaskId, body: Body)
+        requires board { IsPassOf self.now pass.old }
+        requires out { IsOutWith pass.old id.0 body.takes }
+        requires row { body.row ≡ row_after self.now.start.nexts id.0 body.takes }
+        ensures back { pass.new ≡ with_outs pass.old (without id.0 pass.old.outs) }
+        ensures home { NoBody pass.new.outs id.0 }
+    {
+        slot_in::<Brand>(&self.table.shared, &mut pass.seat, id.0, body);
+    }
+
+    /// Takes a task to run it: one of the caller's own, which is in its hands, or one that it has drawn and whose body is
+    /// out with it. The reply has the takes that the pass knows.
     pub fn take(&self, pass: &mut Pass, id: TaskId) -> Seen
         requires board { IsPassOf self.now pass.old }
         requires exists { id.0 < length self.now.start.state.tasks }
-        requires held { own_by pass.old id.0 ≡ holding }
-        requires home { home_of self.now.start id.0 ≡ pass.old.who }
-        requires worker { pass.old.who < self.now.start.state.workers }
-        requires room { known_takes self.now.start pass.old.entries id.0 < 2 ^ 48 - 1 }
-        ensures { Calls pass.old (calls.Take id) (replies.Task result) pass.new }
+        requires may { (t : ℕ) × MayTake pass.old id.0 t × t < 2 ^ 48 - 1 }
+        ensures calls { Calls pass.old (calls.Take id) (replies.Task result) pass.new }
+        ensures takes { (t : ℕ) → MayTake pass.old id.0 t → takes_seen result ≡ t }
     {
         let index = id.0 as usize;
         let takes = pass.takes[index];

@@ -1,6 +1,6 @@
 //! What holds of all words and boards, as functions that do nothing and whose contracts are the laws.
 
-ghost use Rattle.wake_board.specs.Laws.{WordsStandForOneState, NewWordsStand, SeatedWordsStand, DealtWordsStand, TasksAreInOnePlace, CallsTellOwn, SharedTasksHaveRoom};
+ghost use Rattle.wake_board.specs.Laws.{WordsStandForOneState, NewWordsStand, SeatedWordsStand, DealtWordsStand, TasksAreInOnePlace, BodiesAreInOnePlace, CallsTellOwn, SharedTasksHaveRoom};
 
 /// Words and holders stand for one state at most.
 pub fn words_stand_for_one_state()
@@ -26,6 +26,12 @@ pub fn dealt_words_stand()
 /// box, and no task is in two places.
 pub fn tasks_are_in_one_place()
     ensures { TasksAreInOnePlace }
+{}
+
+/// At every moment the body of a shared task that is not gone is at home, with the task's takes and the row that comes after
+/// so many, or out with the pass that has drawn the task or runs it; and it is not in two places.
+pub fn bodies_are_in_one_place()
+    ensures { BodiesAreInOnePlace }
 {}
 
 /// After a call, what the pass has of each task follows from what it had, from the call and from the reply, and nothing else.

@@ -8,6 +8,7 @@ pub mod laws;
 mod open;
 mod pass;
 mod passes;
+mod slots;
 #[cfg(test)]
 mod tests;
 mod views;

@@ -4,6 +4,7 @@ use crate::body::Body;
 use crate::words::Words;
 use atomic_table::{Join, Play, Split, TableRule};
 use std::collections::LinkedList;
+use std::marker::{Brand, PhantomData};
 use std::snapshot::Snapshot;
 use step_tables::Nexts;
 use task_machine::Entry;
@@ -67,10 +68,9 @@ impl Play<Body, View> for Kills {
 pub struct Takes;
 
 impl Play<Body, View> for Takes {
-    ghost use Rattle.task_machine.specs.declared.calls.Call.TheVariants as calls;
-    ghost use Rattle.wake_board.specs.Seen.{TellsCall};
+    ghost use Rattle.wake_board.specs.Seen.{TellsTake};
 
-    ghost then = { TellsCall calls.Take };
+    ghost then = { TellsTake };
 }
 
 /// The end of a run.
@@ -127,6 +127,48 @@ impl Play<Body, View> for Peeps {
     ghost use Rattle.wake_board.specs.Seen.{TellsPeep};
 
     ghost then = { TellsPeep };
+}
+
+/// The task that a step on word 0 is about, which neither the word nor the operand tells. It is there in proofs alone.
+pub trait Named {
+    ghost use Rattle.std.specs.Prelude.{ℕ};
+
+    ghost task: { ℕ };
+}
+
+impl Named for Brand {
+    ghost task = { 0 };
+}
+
+/// The slot of a task leaves its place.
+pub struct GoesOut<J: Named> {
+    named: PhantomData<J>,
+}
+
+impl<J: Named> Play<Body, View> for GoesOut<J> {
+    ghost use Rattle.wake_board.specs.Seen.{TellsOut};
+
+    ghost then = { TellsOut J.task };
+}
+
+/// The slot of a task comes before the others that a seat has.
+pub struct ComesFirst<J: Named> {
+    named: PhantomData<J>,
+}
+
+impl<J: Named> Play<Body, View> for ComesFirst<J> {
+    ghost use Rattle.wake_board.specs.Seen.{TellsFront};
+
+    ghost then = { TellsFront J.task };
+}
+
+/// The first slot of a seat comes back to its place.
+pub struct GoesIn;
+
+impl Play<Body, View> for GoesIn {
+    ghost use Rattle.wake_board.specs.Seen.{TellsBack};
+
+    ghost then = { TellsBack };
 }
 
 /// The first caller's pass leaves the seat that has those of all that follow.

@@ -3,7 +3,7 @@
 ghost use Rattle.std.specs.Prelude.{◌≡◌, ℕ, ◌*◌, ◌/◌, ◌%◌, ◌<◌, ◌≤◌, false, IfOk, length, slice_index, slice_index_or};
 ghost use Rattle.std.specs.Mem.Slots.{slots_items, slots_filled, slots_len, IsFull};
 ghost use Rattle.task_word.specs.Word.{seen_in};
-ghost use Rattle.wake_board.specs.Gathered.{takes_seen};
+ghost use Rattle.wake_board.specs.Seen.{takes_seen};
 ghost use Rattle.std.specs.Int.{bit_at};
 ghost use Rattle.wake_board.specs.Rows.{blank_row, task_word, box_word, box_at, width, row_seated, row_dealt, first_body};
 
@@ -131,6 +131,16 @@ impl Words {
         ensures { result ≡ self.now.workers }
     {
         self.workers
+    }
+
+    /// There are 1 to 64 workers and at most 65,536 tasks. So it is at any time: the call does nothing, and its contract is
+    /// the law.
+    pub fn stay_few(&self)
+        ensures some_workers { 1 ≤ self.now.workers }
+        ensures few_workers { self.now.workers ≤ 64 }
+        ensures few_tasks { self.now.tasks ≤ 65536 }
+    {
+        let _workers = &self.workers;
     }
 
     /// The state word of a task.

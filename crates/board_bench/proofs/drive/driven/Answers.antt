@@ -8,7 +8,7 @@ pub returns : goal.returns
 returns c =
     let hs = c.args.homes.now in
     let w : ℕ = c.args.workers in
-    let laid = c.in_ok-board.ensures in
+    let laid = c.in_ok-board.ensures.laid in
     let workers = ap (λ (s : State). s.workers) laid.state in
     let out = taken_out (length hs) w hs c.in_ok-board.board c.in_ok-board.passes c.take.new.self c.take-2.new.self c.requires.some_workers laid c.in-Some.ensures.out c.in-Some-take.ensures.out in
     let first = first_out (length hs) w hs c.in_ok-board.board c.in_ok-board.passes c.in-Some.first laid c.in-Some.ensures.found in

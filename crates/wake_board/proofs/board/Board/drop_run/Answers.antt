@@ -5,7 +5,7 @@ use Rattle.task_machine.specs.Own.{running}
 use Rattle.task_word.specs.Word.{seen_in}
 use Rattle.wake_board.specs.Start.{start_of}
 use Rattle.wake_board.specs.Seen.{own_view}
-use Rattle.wake_board.specs.Own.{NoBody}
+use Rattle.wake_board.specs.Outs.{NoBody}
 use Rattle.wake_board.proofs.Runs.{drops_on}
 use Rattle.wake_board.proofs.Grown.{IsPass-told, Calls-told, own_view-held}
 use Rattle.wake_board.proofs.board.Board.drop_run.Goals as goal
@@ -27,7 +27,7 @@ fetch_and-word-requires c =
 
 pub invariant_of-pass : goal.invariant_of-pass
 invariant_of-pass c =
-    IsPass-told c.pass.inside.who.0 c.pass.inside.takes.items c.pass.inside.seat.me c.fetch_and-word.new.seat.me (calls.DropRun c.args.id) (replies.Task (seen_in c.fetch_and-word.result)) c.pass.invariant (c.fetch_and-word.ensures.2 c.args.id.0 refl) (λ i. refl)
+    IsPass-told c.pass.inside.who.0 c.pass.inside.takes.items c.pass.inside.seat.me c.fetch_and-word.new.seat.me (calls.DropRun c.args.id) (replies.Task (seen_in c.fetch_and-word.result)) c.pass.invariant (c.fetch_and-word.ensures.2 c.args.id.0 refl) (λ i. refl) (λ i draw. absurd draw)
 
 pub returns : goal.returns
 returns c =

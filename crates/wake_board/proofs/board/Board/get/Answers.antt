@@ -35,7 +35,7 @@ invariant_of-pass c =
     let sized = c.self.invariant in
     let count : count_in seat.me.0 ≡ c.self.inside.words.tasks = ap (λ (o : Start). length o.state.tasks) start ∙ sized.tasks in
     let told = c.swap.ensures.2 c.args.group (omega arith) (c.box_place-at.ensures.place ∙ (ap (λ (n : ℕ). box_at n c.pass.inside.who.0 c.args.group) (sym count) ∙ ap (λ (k : ℕ). box_at (count_in seat.me.0) k c.args.group) (sym number))) in
-    IsPass-told c.pass.inside.who.0 c.pass.inside.takes.items seat.me c.swap.new.seat.me (calls.Get c.args.group) (replies.Group c.swap.result) c.pass.invariant told.0 (λ i. refl)
+    IsPass-told c.pass.inside.who.0 c.pass.inside.takes.items seat.me c.swap.new.seat.me (calls.Get c.args.group) (replies.Group c.swap.result) c.pass.invariant told.0 (λ i. refl) (λ i draw. absurd draw)
 
 pub returns-clause-calls : goal.returns-clause-calls
 returns-clause-calls c =

@@ -21,7 +21,7 @@ fetch_or-word-requires c =
 
 pub invariant_of-pass : goal.invariant_of-pass
 invariant_of-pass c =
-    IsPass-told c.pass.inside.who.0 c.pass.inside.takes.items c.pass.inside.seat.me c.fetch_or-word.new.seat.me (calls.Kill c.args.id) (replies.Task (seen_in c.fetch_or-word.result)) c.pass.invariant (c.fetch_or-word.ensures.2 c.args.id.0 refl) (λ i. refl)
+    IsPass-told c.pass.inside.who.0 c.pass.inside.takes.items c.pass.inside.seat.me c.fetch_or-word.new.seat.me (calls.Kill c.args.id) (replies.Task (seen_in c.fetch_or-word.result)) c.pass.invariant (c.fetch_or-word.ensures.2 c.args.id.0 refl) (λ i. refl) (λ i draw. absurd draw)
 
 pub returns : goal.returns
 returns c =

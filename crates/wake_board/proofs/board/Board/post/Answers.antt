@@ -36,7 +36,7 @@ invariant_of-pass c =
     let count : count_in seat.me.0 ≡ c.self.inside.words.tasks = ap (λ (o : Start). length o.state.tasks) start ∙ sized.tasks in
     let workers = ap (λ (o : Start). o.state.workers) start in
     let told = c.fetch_or.ensures.2 c.args.id.0 c.args.boxno (omega arith) (omega arith) (c.box_place-at.ensures.place ∙ ap (λ (n : ℕ). box_at n c.args.boxno (c.args.id.0 / 64)) (sym count)) refl in
-    IsPass-told c.pass.inside.who.0 c.pass.inside.takes.items seat.me c.fetch_or.new.seat.me (calls.Post c.args.id c.args.boxno) replies.Done c.pass.invariant told (λ i. refl)
+    IsPass-told c.pass.inside.who.0 c.pass.inside.takes.items seat.me c.fetch_or.new.seat.me (calls.Post c.args.id c.args.boxno) replies.Done c.pass.invariant told (λ i. refl) (λ i draw. absurd draw)
 
 pub returns : goal.returns
 returns c =

@@ -5,7 +5,8 @@ use Rattle.task_machine.specs.Own.{away}
 use Rattle.task_word.specs.Word.{seen_in}
 use Rattle.wake_board.specs.Start.{start_of}
 use Rattle.wake_board.specs.Seen.{own_view}
-use Rattle.wake_board.specs.Own.{NoBody, held_by}
+use Rattle.wake_board.specs.Outs.{NoBody}
+use Rattle.wake_board.specs.Own.{held_by}
 use Rattle.wake_board.specs.Ends.{own_by}
 use Rattle.wake_board.proofs.Runs.{retires_on}
 use Rattle.wake_board.proofs.Grown.{IsPass-told, Calls-told, own_view-held}
@@ -29,7 +30,7 @@ swap-word-requires c =
 
 pub invariant_of-pass : goal.invariant_of-pass
 invariant_of-pass c =
-    IsPass-told c.pass.inside.who.0 c.pass.inside.takes.items c.pass.inside.seat.me c.swap-word.new.seat.me (calls.Retire c.args.id) (replies.Task (seen_in c.swap-word.result)) c.pass.invariant (c.swap-word.ensures.2 c.args.id.0 refl) (λ i. refl)
+    IsPass-told c.pass.inside.who.0 c.pass.inside.takes.items c.pass.inside.seat.me c.swap-word.new.seat.me (calls.Retire c.args.id) (replies.Task (seen_in c.swap-word.result)) c.pass.invariant (c.swap-word.ensures.2 c.args.id.0 refl) (λ i. refl) (λ i draw. absurd draw)
 
 pub returns : goal.returns
 returns c =

@@ -1,7 +1,7 @@
 use Rattle.std.proofs.Common.{◌≡◌, ℕ, ◌<◌, get_or, length}
 use Rattle.task_word.specs.Word.{seen_in}
 use Rattle.wake_board.specs.Rows.{task_word}
-use Rattle.wake_board.specs.Gathered.{takes_seen}
+use Rattle.wake_board.specs.Seen.{takes_seen}
 use Rattle.wake_board.proofs.words.Words.taken.Given as goal
 
 -- the takes of the first tasks are read
