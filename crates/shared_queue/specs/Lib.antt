@@ -1,0 +1,5 @@
+pub mod Sharing
+pub mod Dealing
+pub mod Drawing
+pub mod Looking
+pub mod Crowds

@@ -1,0 +1,15 @@
+//! The queue of the tasks that all workers share: dealt out by arrival and nice, or drawn from a board one at a time
+//! (docs/SHARED.md).
+#![tactic(auto)]
+
+#[cfg(test)]
+mod boards;
+mod dealing;
+#[cfg(test)]
+mod draw_tests;
+mod drawing;
+mod shared_queue;
+#[cfg(test)]
+mod tests;
+
+pub use shared_queue::SharedQueue;
