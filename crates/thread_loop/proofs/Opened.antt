@@ -1,6 +1,6 @@
 -- What an engine starts from.
-use Rattle.std.proofs.Common.{◌≡◌, ℕ, zero, suc, ◌+◌, ◌<◌, ◌≤◌, ◌==◌, ◌&&◌, ltb, leb, pos, Bool, true, false, List, [], ◌∷◌, ◌++◌, map, length, replicate, get_or, None, Result, Ok, Err, IfOk, IsTrue, refl, sym, ap, ◌∙◌, subst, arith, inl, inr, if◌then◌else◌}
-use Rattle.std.specs.List.{All, Contains, list_all}
+use Rattle.std.proofs.Common.{◌≡◌, ℕ, zero, suc, ◌+◌, ◌<◌, ◌≤◌, ◌&&◌, ltb, pos, Bool, true, false, List, [], ◌∷◌, ◌++◌, map, length, replicate, get_or, None, Result, Ok, Err, IfOk, IsTrue, refl, sym, ap, ◌∙◌, subst, arith, inl, inr, if◌then◌else◌}
+use Rattle.std.specs.List.{All, Contains}
 use Rattle.std.specs.List.Sorted.{IsPermutation}
 use Rattle.std.proofs.lemmas.Bool.{cases_eq, leb-true, ltb-true, lt-ltb}
 use Rattle.std.proofs.lemmas.List.Elements.{All-push, Contains-push, Contains-append_left}
@@ -19,10 +19,9 @@ use Rattle.run_model.specs.Book.{Book}
 use Rattle.run_model.specs.Standing.{opening, opened, blank_book}
 use Rattle.run_model.specs.Tables.{home_in, home_of, def_of, blank_task, row_number}
 use Rattle.standing.proofs.Opening.{opening_each}
-use Rattle.step_tables.specs.declared.tables.Event.{Event}
 use Rattle.step_tables.specs.declared.tables.Kind.{Kind}
 use Rattle.step_tables.specs.declared.tables.Kind.TheVariants.{Pinned, Shared, Tasklet}
-use Rattle.step_tables.specs.Sound.{is_sound, is_sound_kind, is_sound_task, is_sound_action, within, rising_below}
+use Rattle.step_tables.specs.Sound.{is_sound, is_sound_kind, is_sound_task, rising_below}
 use Rattle.run_model.proofs.Readings.{both}
 use Rattle.turn_steps.proofs.Fit.{at_all, task_parts, sound_parts, within-parts, IsFit-sound}
 use Rattle.turn_steps.specs.Left.{asked}

@@ -19,7 +19,7 @@ pub kind_range : (s : Script) (i : ℕ) (d : TaskDef) → IsTrue (is_sound s) �
 kind_range s i d h lt = ((in_range s h).tasks i (get_or s.tasks i d) (slice_get-get_or s.tasks i d lt)).kind
 
 -- a nice is in range, and as the machine keeps it it is the same
-nice_parts : (n : ℤ) → is_nice n ≡ true → (negsuc 1023 ≤ℤ n) × (n ≤ℤ pos 1024)
+pub nice_parts : (n : ℤ) → is_nice n ≡ true → (negsuc 1023 ≤ℤ n) × (n ≤ℤ pos 1024)
 nice_parts n h = (grind (arith, ints), grind (arith, ints))
 
 nice_fits : (n : ℤ) → negsuc 1023 ≤ℤ n → n ≤ℤ pos 1024 → FitsSigned w32 n

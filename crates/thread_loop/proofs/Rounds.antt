@@ -193,14 +193,14 @@ injector-begun s r T e n at =
 
 -- ---- the end
 
-first_version : (s : Script) → IsTrue (is_sound s) → is_second s ≡ false
+pub first_version : (s : Script) → IsTrue (is_sound s) → is_second s ≡ false
 unfolding is_sound
 first_version s h =
     let parts = and_parts (s.version == 1) _ h in
     let one : s.version ≡ 1 = eqb-true s.version 1 parts.0 in
     ap (nat_le 2) one
 
-ended_first : (s : Script) (T : ℕ) (b : Book) → is_second s ≡ false → turn_ended s T b ≡ b
+pub ended_first : (s : Script) (T : ℕ) (b : Book) → is_second s ≡ false → turn_ended s T b ≡ b
 ended_first s T b h = rw h refl
 
 books_now : (s : Script) (T : ℕ) (at : ℕ → Stage) (n : ℕ) (ws : List Worker) → is_second s ≡ false → ((k : ℕ) (d : Worker) → k < length ws → book_now (get_or ws k d) ≡ (at (n + k)).book) → books_of s T at n (length ws) ≡ map book_now ws
@@ -211,7 +211,7 @@ books_now s T at n (w ∷ ws) first h =
     let later : books_of s T at (n + 1) (length ws) ≡ map book_now ws = books_now s T at (n + 1) ws first (λ k d lt. let next : n + suc k ≡ n + 1 + k = omega arith in h (suc k) d (omega arith) ∙ ap (λ j. (at j).book) next) in
     ap (λ b. b ∷ books_of s T at (n + 1) (length ws)) here ∙ ap (λ bs. book_now w ∷ bs) later
 
-same_standing : (a b : State) (bs cs : List Book) → a ≡ b → bs ≡ cs → (let x : Standing = record { state = a; books = bs } in x) ≡ (let x : Standing = record { state = b; books = cs } in x)
+pub same_standing : (a b : State) (bs cs : List Book) → a ≡ b → bs ≡ cs → (let x : Standing = record { state = a; books = bs } in x) ≡ (let x : Standing = record { state = b; books = cs } in x)
 same_standing a b bs cs p q = ap (λ (x : State). let st : Standing = record { state = x; books = bs } in st) p ∙ ap (λ (xs : List Book). let st : Standing = record { state = b; books = xs } in st) q
 
 -- after the injector's round
@@ -261,7 +261,7 @@ round-over s g e h =
     let made = round-made s g.round g.tick g.old e.log.entries m.firm.places.books m.going h.done served in
     subst (λ (st : Standing). RoundOf s g.round g.tick g.old (record { tick = g.tick; entries = e.log.entries }) st) (standing_left s g e h) made
 
-window_now : (T : ℕ) (b : Book) → T < 2 ^ 32 → Window ahead T b.wait → Window behind T b.wait
+pub window_now : (T : ℕ) (b : Book) → T < 2 ^ 32 → Window ahead T b.wait → Window behind T b.wait
 window_now T b lt w =
     let same : (T + 0) % 2 ^ 32 ≡ T = omega arith in
     subst (λ (U : ℕ). Window behind U b.wait) same (window-next T 0 b.wait lt (omega arith) w)

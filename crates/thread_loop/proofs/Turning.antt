@@ -88,7 +88,7 @@ undrawn-taken s T r i q None b = refl
 undrawn-taken s T r i q (Some x) b = (has-run_begun s T r i (is_killed r) x.task (spent_in x.class q) (taken_from x.class b)).draws
 
 -- what is heard leaves no task that was drawn
-undrawn-heard : (s : Script) (w : CallerId) (T : ℕ) (r : Reply) (i : ℕ) (l : Left) (b : Book) → drawn_by i (heard_in s w T r l b).left ≡ 0
+pub undrawn-heard : (s : Script) (w : CallerId) (T : ℕ) (r : Reply) (i : ℕ) (l : Left) (b : Book) → drawn_by i (heard_in s w T r l b).left ≡ 0
 undrawn-heard s w T r i (gets g gs) b = (has-gets s T i gs _).draws
 undrawn-heard s w T r i (wakes j is) b = (has-wakes s i is _).draws
 undrawn-heard s w T r i (runs q) b = undrawn-taken s T r i q (next_in q b) b
@@ -120,7 +120,7 @@ seen-takes (places.Drawn j) t h = refl
 seen-takes (places.Runs j) t h = refl
 seen-takes places.Gone t h = cc
 
-takes-of_after : (c : Call) (i t : ℕ) → takes_after c i t ≡ t + bit (is_take i c)
+pub takes-of_after : (c : Call) (i t : ℕ) → takes_after c i t ≡ t + bit (is_take i c)
 takes-of_after (calls.Wake j f) i t = omega arith
 takes-of_after (calls.Kill j) i t = omega arith
 takes-of_after (calls.Post j b) i t = omega arith

@@ -3,3 +3,11 @@ pub mod Turns
 pub mod Workers
 pub mod Engines
 pub mod Shops
+pub mod Boards
+pub mod Calls
+pub mod BoardTurns
+pub mod Holders
+pub mod Plants
+pub mod Rounds
+pub mod Crews
+pub mod Players

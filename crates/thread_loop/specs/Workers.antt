@@ -11,9 +11,9 @@ use Rattle.run_model.specs.Replies.{takes_in}
 use Rattle.run_model.specs.Tables.{row_number}
 use Rattle.turn_steps.specs.Left.{Stage}
 use Rattle.turn_steps.specs.Counts.{calls_left}
+use Rattle.wake_board.specs.declared.body.Body.{Body}
 use Rattle.thread_loop.specs.Queues.{book_of, made_of}
 use Rattle.thread_loop.specs.Turns.{stage_in, TurnFits, NamesTasks}
-use Rattle.thread_loop.specs.declared.worker.Body.{Body}
 use Rattle.thread_loop.specs.declared.worker.Worker.{Worker}
 
 -- its number, the tick of the turn that was begun last, and how many turns were begun

@@ -1,8 +1,9 @@
 //! What a turn looks up in its script, and what it reads from a reply.
 
 ghost use Rattle.std.specs.Prelude.{◌≡◌, ◌<◌, length, slice_get, Some};
+ghost use Rattle.step_tables.specs.declared.tables.Script.{Script};
 ghost use Rattle.run_model.specs.Replies.{is_rest, is_killed, has_reasons};
-ghost use Rattle.run_model.specs.Tables.{call_of, def_of, groups, home_of, row_at, target};
+ghost use Rattle.run_model.specs.Tables.{call_of, def_of, groups, home_in, home_of, nice_in, row_at, target};
 
 use sched_base::TaskId;
 use step_tables::{Action, Kind, Row, Script, TaskDef};
@@ -29,10 +30,28 @@ pub(crate) fn home_of(script: &Script, id: TaskId) -> u32
     requires { id.0 < length script.now.tasks }
     ensures { result ≡ home_of script.now id.0 }
 {
-    match task_of(script, id).kind {
+    home_in(script.workers(), task_of(script, id).kind)
+}
+
+/// The box to which a task of this kind is posted, among so many workers.
+pub(crate) fn home_in(workers: u32, kind: Kind) -> u32
+    ensures { (s : Script) → s.workers ≡ workers → result ≡ home_in s kind }
+{
+    match kind {
         Kind::Pinned { home, .. } => home,
-        Kind::Shared { .. } => script.workers(),
+        Kind::Shared { .. } => workers,
         Kind::Tasklet { home, .. } => home,
+    }
+}
+
+/// The nice of a task of this kind; a tasklet has 0.
+pub(crate) fn nice_in(kind: Kind) -> i32
+    ensures { result ≡ nice_in kind }
+{
+    match kind {
+        Kind::Pinned { nice, .. } => nice,
+        Kind::Shared { nice } => nice,
+        Kind::Tasklet { .. } => 0,
     }
 }
 

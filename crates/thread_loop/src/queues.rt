@@ -227,7 +227,7 @@ impl Queues {
     }
 
     /// Drops a task's timer.
-    #[tactic(auto, using(crate::proofs::Kept::timers_changed))]
+    #[tactic(auto, using(crate::proofs::TimersKept::timers_changed))]
     pub(crate) fn drop_timer(&mut self, script: &Script, id: TaskId)
         requires fits { Fits script.now self.old }
         requires exists { id.0 < length script.now.tasks }

@@ -17,12 +17,14 @@ ghost use Rattle.thread_loop.specs.Workers.{number_of, stage_of, TellsTakes};
 ghost use Rattle.thread_loop.specs.Engines.{IsWithin, InjectedAll, actions_all};
 ghost use Rattle.thread_loop.specs.Shops.{Opened, after_all, Making, Works, Noted, row_after, Turned, calls_in, IsServed, Injected, IsShared, HasShared};
 
+use crate::calls::note;
 use crate::lookups::{call_of, home_of, is_rest, target};
-use crate::worker::{Body, Worker};
+use crate::worker::Worker;
 use sched_base::{CallerId, TaskId};
 use std::alloc::{AllocError, Global};
 use step_tables::{Action, Event, Script};
-use task_machine::{Call, Entry, Log, Machine, Place, Reply, Seen};
+use task_machine::{Call, Log, Machine, Place, Reply, Seen};
+use wake_board::Body;
 
 /// The machine, and the row of each task's next run.
 #[derive(Drop)]
@@ -313,20 +315,6 @@ impl Shop {
         }
         Ok(())
     }
-}
-
-/// Adds a call to a log with its reply.
-fn note(log: &mut Log, who: CallerId, call: &Call, reply: &Reply)
-    requires { length log.old.entries < log.old.room }
-    ensures entries { log.new.entries ≡ log.old.entries ++ said who call.now reply.now ∷ [] }
-    ensures spare { log.new.room ≡ log.old.room }
-{
-    let entry = Entry {
-        caller: who,
-        call: *call,
-        reply: *reply,
-    };
-    log.push(entry);
 }
 
 /// The row after this row of a task.

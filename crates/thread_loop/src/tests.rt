@@ -1,6 +1,7 @@
 //! What a worker has in its forest after a turn.
 
 use crate::engine::Engine;
+use crate::injector::Injector;
 use crate::worker::Worker;
 use std::alloc::{AllocError, Global};
 use std::test::Fail;
@@ -52,6 +53,33 @@ fn timer_of_a_first_turn_stands_in_the_forest(rt: HostRuntime) -> Result<(), Fai
             run: None,
         };
         assert_eq!(rt; after_first_round(alloc, &script)?, Some(wanted));
+    } else {
+        assert!(rt; false);
+    }
+    Ok(())
+}
+
+/// Compiles where the type may go from thread to thread.
+fn handed<T: Send>() {}
+
+#[test]
+fn workers_and_injectors_are_handed_on() {
+    handed::<Worker>();
+    handed::<Injector>();
+}
+
+#[test]
+fn logs_have_room_before_a_round(rt: HostRuntime) -> Result<(), Fail> {
+    let alloc = rt.alloc();
+    if let Ok(script) = Script::read(alloc, TIMER.as_bytes()) {
+        let mut injector = Injector::new(alloc, &script)?;
+        injector.reserve_round(&script, 0)?;
+        assert!(rt; injector.log().as_slice().is_empty());
+        if script.workers() > 0 {
+            let mut worker = Worker::new(alloc, 0, &script)?;
+            worker.reserve_turn(&script)?;
+            assert!(rt; worker.log().as_slice().is_empty());
+        }
     } else {
         assert!(rt; false);
     }

@@ -1,5 +1,5 @@
 //! A worker: its turn as a state that is asked for one call at a time.
-#![tactic(auto, unfolding(crate::specs::Workers::number_of, crate::specs::Workers::tick_of, crate::specs::Workers::turns_of, crate::specs::Workers::takes_of, crate::specs::Workers::book_at_tick, crate::specs::Workers::stage_of, crate::specs::Workers::Fits))]
+#![tactic(auto, unfolding(crate::specs::Workers::number_of, crate::specs::Workers::tick_of, crate::specs::Workers::turns_of, crate::specs::Workers::takes_of, crate::specs::Workers::book_at_tick, crate::specs::Workers::stage_of, crate::specs::Workers::Fits, crate::specs::Boards::log_of))]
 
 ghost use Rattle.std.specs.Prelude.{◌≡◌, ℕ, ◌+◌, ◌-◌, ◌^◌, ◌<◌, nat_lt, length, map, slice_index_or, if◌then◌else◌, IfOk, IfSome, None, Some, IsTrue};
 ghost use Rattle.step_tables.specs.Sound.{is_sound};
@@ -16,6 +16,7 @@ ghost use Rattle.run_model.specs.Tables.{home_of, row_number};
 ghost use Rattle.run_model.specs.Standing.{blank_book};
 ghost use Rattle.turn_steps.specs.Left.{asked, begun, heard, drew, draws_now};
 ghost use Rattle.turn_steps.specs.Has.{CanGive, caller};
+ghost use Rattle.thread_loop.specs.Boards.{log_of, IsSame};
 ghost use Rattle.thread_loop.specs.Turns.{drawn_run};
 ghost use Rattle.thread_loop.specs.Workers.{number_of, tick_of, turns_of, takes_of, book_at_tick, stage_of, Fits, RowsFit, is_taken, body_of, takes_after, TellsTakes};
 
@@ -25,24 +26,21 @@ use crate::turn::Turn;
 use eb32_core::Forest;
 use sched_base::TaskId;
 use std::alloc::{AllocError, Global};
+use std::mem;
 use step_tables::Script;
-use task_machine::{Call, Reply};
+use task_machine::{Call, Log, Reply};
+use wake_board::Body;
 
-/// What the run of a shared task needs: its row, and how often it was taken.
-#[derive(Clone, Copy, Debug, PartialEq, Eq)]
-pub struct Body {
-    pub row: u32,
-    pub takes: u64,
-}
-
-/// A worker of a script. Contracts see where it stands in its turn, with its book.
+/// A worker of a script. Contracts see where it stands in its turn, with its book, and its log.
 #[derive(Drop)]
 pub struct Worker {
-    number: u32,
+    pub(crate) number: u32,
     turns: u32,
     rows: Vec<u32>,
     takes: Vec<u64>,
     turn: Turn,
+    /// The calls of its last turn on a board.
+    pub(crate) log: Log,
 }
 
 impl Worker {
@@ -68,6 +66,7 @@ impl Worker {
             rows,
             takes,
             turn: Turn::over(Queues::new(alloc, script)?),
+            log: Log::new(alloc),
         })
     }
 
@@ -89,6 +88,7 @@ impl Worker {
         requires few { turns_of self.old < 10000000 }
         ensures stage { stage_of script.now self.new ≡ begun script.now now (book_at_tick now self.old) }
         ensures fits { Fits script.now self.new }
+        ensures log { log_of self.new ≡ log_of self.old }
         ensures number { number_of self.new ≡ number_of self.old }
         ensures tick { tick_of self.new ≡ now }
         ensures turns { turns_of self.new ≡ turns_of self.old + 1 }
@@ -115,6 +115,7 @@ impl Worker {
         requires takes { (call : Call) → asked script.now (stage_of script.now self.old) ≡ Some call → TellsTakes self.old call reply.now }
         ensures stage { stage_of script.now self.new ≡ heard script.now (caller (number_of self.old)) (tick_of self.old) reply.now (stage_of script.now self.old) }
         ensures fits { Fits script.now self.new }
+        ensures log { log_of self.new ≡ log_of self.old }
         ensures number { number_of self.new ≡ number_of self.old }
         ensures tick { tick_of self.new ≡ tick_of self.old }
         ensures turns { turns_of self.new ≡ turns_of self.old }
@@ -173,6 +174,7 @@ impl Worker {
         requires row { body.row ≡ row_number script.now id.0 body.takes }
         ensures stage { stage_of script.now self.new ≡ drew script.now id.0 (stage_of script.now self.old) }
         ensures fits { Fits script.now self.new }
+        ensures log { log_of self.new ≡ log_of self.old }
         ensures number { number_of self.new ≡ number_of self.old }
         ensures tick { tick_of self.new ≡ tick_of self.old }
         ensures turns { turns_of self.new ≡ turns_of self.old }
@@ -197,6 +199,34 @@ impl Worker {
             }),
             None => None,
         }
+    }
+
+    /// The row of a task's next run, and its takes, as far as the worker knows them.
+    pub(crate) fn body_of(&self, script: &Script, id: TaskId) -> Body
+        requires fits { Fits script.now self.now }
+        requires exists { id.0 < length script.now.tasks }
+        ensures { result ≡ body_of script.now self.now id.0 }
+    {
+        Body {
+            row: self.rows[id.0 as usize],
+            takes: self.takes[id.0 as usize],
+        }
+    }
+
+    /// The calls of its last turn on a board.
+    pub fn log(&self) -> &Log
+        ensures { result.now ≡ log_of self.now }
+    {
+        &self.log
+    }
+
+    /// Gives its log for another one.
+    pub fn swap_log(&mut self, log: &mut Log)
+        ensures taken { log_of self.new ≡ log.old }
+        ensures given { log.new ≡ log_of self.old }
+        ensures same { IsSame self.old self.new }
+    {
+        mem::swap(&mut self.log, log);
     }
 
     /// The forest of the worker's queues: root 0's list stands for the wait list of its book, root 1's for

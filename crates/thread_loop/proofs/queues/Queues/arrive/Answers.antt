@@ -1,6 +1,6 @@
 use Rattle.std.proofs.Common.{refl, ap, w32, to_z, of_z}
 use Rattle.thread_loop.specs.Queues.{book_of}
-use Rattle.thread_loop.proofs.Kept.{runners_changed}
+use Rattle.thread_loop.proofs.TimersKept.{runners_changed}
 use Rattle.thread_loop.proofs.Once.{not_listed, once_arrived}
 use Rattle.thread_loop.proofs.queues.Queues.arrive.Goals as goal
 

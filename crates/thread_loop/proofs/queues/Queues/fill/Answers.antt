@@ -7,7 +7,7 @@ use Rattle.turn_steps.specs.Times.{in_classes}
 use Rattle.thread_loop.specs.Queues.{book_of}
 use Rattle.thread_loop.proofs.Filling.{filled-step, filled-idle, picked-idle}
 use Rattle.thread_loop.proofs.Once.{in_run, not_pushed, once_joined}
-use Rattle.thread_loop.proofs.Kept.{lists_changed}
+use Rattle.thread_loop.proofs.TimersKept.{lists_changed}
 use Rattle.thread_loop.proofs.queues.Queues.fill.Goals as goal
 
 pub returns-in_default-clause-book : goal.returns-in_default-clause-book

@@ -1,6 +1,6 @@
 use Rattle.std.proofs.Common.{refl, ap}
 use Rattle.thread_loop.specs.Queues.{book_of}
-use Rattle.thread_loop.proofs.Kept.{runners_changed}
+use Rattle.thread_loop.proofs.TimersKept.{runners_changed}
 use Rattle.thread_loop.proofs.Once.{once_picked, picked_absent, first_exists}
 use Rattle.thread_loop.proofs.queues.Queues.pick.Goals as goal
 

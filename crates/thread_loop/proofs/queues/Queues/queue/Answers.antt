@@ -3,7 +3,7 @@ use Rattle.queue_model.specs.Classes.{pushed}
 use Rattle.tasklet_lists.specs.ClassLists.{ClassLists}
 use Rattle.turn_steps.specs.Times.{in_classes}
 use Rattle.thread_loop.specs.Queues.{book_of}
-use Rattle.thread_loop.proofs.Kept.{lists_changed}
+use Rattle.thread_loop.proofs.TimersKept.{lists_changed}
 use Rattle.thread_loop.proofs.Once.{in_run, not_pushed, once_joined}
 use Rattle.thread_loop.proofs.Ranges.{pinned_nice, shared_nice}
 use Rattle.thread_loop.proofs.queues.Queues.queue.Goals as goal

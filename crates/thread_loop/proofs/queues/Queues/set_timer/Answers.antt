@@ -2,7 +2,7 @@ use Rattle.std.proofs.Common.{sym, subst}
 use Rattle.eb32_core.specs.Forest.{seen_of}
 use Rattle.sched_base.specs.KeyedList.{ChangesRoot}
 use Rattle.wait_queue.specs.Timers.{Timers, IsSameQueue}
-use Rattle.thread_loop.proofs.Kept.{timers_changed}
+use Rattle.thread_loop.proofs.TimersKept.{timers_changed}
 use Rattle.thread_loop.proofs.queues.Queues.set_timer.Goals as goal
 
 pub returns-in-After-clause-fits : goal.returns-in-After-clause-fits

@@ -1,5 +1,5 @@
 use Rattle.std.proofs.Common.{arith}
-use Rattle.thread_loop.proofs.Kept.{timers_changed}
+use Rattle.thread_loop.proofs.TimersKept.{timers_changed}
 use Rattle.thread_loop.proofs.TimersOf.{sweep_ends, sweep_goes}
 use Rattle.thread_loop.proofs.queues.Queues.sweep.Goals as goal
 

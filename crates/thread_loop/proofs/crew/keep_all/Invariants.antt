@@ -1,0 +1,7 @@
+use Rattle.std.proofs.Common.{◌≡◌, ◌++◌, take}
+use Rattle.thread_loop.specs.Crews.{kept_logs}
+use Rattle.thread_loop.proofs.crew.keep_all.Given as goal
+
+-- the logs so far are kept
+abbrev pub invariant-loop-log : goal.invariant-loop-log
+invariant-loop-log l = record { so_far : l.calls.items ≡ l.initial.calls.items ++ kept_logs l.round (take l.log-index l.logs) }
