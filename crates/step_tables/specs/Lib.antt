@@ -9,3 +9,5 @@ pub mod Index
 pub mod Judging
 pub mod Views
 pub mod Nexts
+pub mod Made
+pub mod Homes

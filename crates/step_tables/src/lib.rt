@@ -20,7 +20,7 @@ mod writing;
 pub use faults::{FaultKind, ScriptError, ScriptFault};
 pub use lists::{Actions, Events, Name, Rows, Tasks};
 pub use nexts::Nexts;
-pub use tables::{Action, Event, Expiry, Kind, Row, Script, TaskDef};
+pub use tables::{Action, Event, Expiry, Kind, Row, Script, Settings, TaskDef};
 
 #[cfg(test)]
 mod tests;

@@ -2,6 +2,7 @@
 
 ghost use Rattle.std.specs.Prelude.{◌≡◌, IsTrue};
 ghost use Rattle.step_tables.specs.Sound.{is_sound};
+ghost use Rattle.step_tables.specs.Made.{tables_of};
 
 use crate::lists::{Actions, Events, Name, Rows, Tasks};
 use sched_base::{Class, Reasons, TaskId};
@@ -101,7 +102,40 @@ impl Model for Script {
     ghost invariant = { λ s. IsTrue (is_sound (record { version = s.version; workers = s.workers; depth = s.depth; start = s.start; step = s.step; rounds = s.rounds; tasks = s.tasks; events = s.events })) };
 }
 
+/// The numbers of a script that are no tables: its workers, and how its rounds are timed.
+#[derive(Clone, Copy, Debug, PartialEq, Eq)]
+pub struct Settings {
+    /// How many workers there are, 1 to 16.
+    pub workers: u32,
+    /// How many tasks a turn may pick, 1 to 1,000.
+    pub depth: u32,
+    /// The tick of round 0, in milliseconds that wrap at 2^32.
+    pub start: u32,
+    /// Milliseconds from one round to the next, 1 to 1,048,576.
+    pub step: u32,
+    /// The most rounds that are run, 1 to 100,000.
+    pub rounds: u32,
+}
+
 impl Script {
+    /// The script of these tables, which must be in range, in version 1. It takes no memory.
+    pub fn of_tables(settings: Settings, tasks: Tasks, events: Events) -> Script
+        requires { IsTrue (is_sound (tables_of settings tasks events)) }
+        ensures same { result ≡ tables_of settings tasks events }
+        ensures sound { IsTrue (is_sound result) }
+    {
+        Script {
+            version: 1,
+            workers: settings.workers,
+            depth: settings.depth,
+            start: settings.start,
+            step: settings.step,
+            rounds: settings.rounds,
+            tasks,
+            events,
+        }
+    }
+
     /// The version of the format that it is written in, which is 1.
     pub fn version(&self) -> u32
         ensures same { result ≡ self.now.version }

@@ -4,3 +4,5 @@ pub mod Calls
 pub mod Texts
 pub mod RunTexts
 pub mod Played
+pub mod Served
+pub mod Counted

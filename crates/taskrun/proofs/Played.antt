@@ -25,7 +25,8 @@ use Rattle.thread_loop.specs.declared.engine.Engine.{Engine}
 use Rattle.thread_loop.specs.Engines.{standing_of, IsReady}
 use Rattle.taskrun.specs.Headline.{IsRunOf}
 use Rattle.taskrun.specs.Answers.{Wrote, WroteFront}
-use Rattle.taskrun.specs.Rounds.{Plays, made, is_last, Adds, Underway}
+use Rattle.taskrun.specs.declared.rounds.AfterRound.{AfterRound}
+use Rattle.taskrun.specs.Rounds.{Plays, made, is_last, Makes, Adds, Underway}
 use Rattle.taskrun.proofs.Calls.{both}
 use Rattle.taskrun.proofs.Joined.{appends_more}
 use Rattle.taskrun.proofs.RunTexts.{lawful_has_text}
@@ -97,7 +98,7 @@ one_more rounds round q e =
 -- ---- what is written
 
 -- a run that is lawful is a run of the script
-run_of : (s : Script) (run : Run) → LawfulRun s run → IsRunOf s run
+pub run_of : (s : Script) (run : Run) → LawfulRun s run → IsRunOf s run
 run_of s run h = record { lawful = h; reasons = reasons_all s run h }
 
 -- where a run stands after whole rounds
@@ -105,7 +106,7 @@ pub plays_firm : (s : Script) (rounds : List Round) (q U : ℕ) (e : Engine) →
 plays_firm s rounds q U e sound h = runs_firm s rounds q U (standing_of s e) sound h.passes
 
 -- whole rounds begin a lawful run
-rounds_begin : (s : Script) (rounds : List Round) (q U : ℕ) (st : Standing) → IsTrue (is_sound s) → Passes s 0 s.start (opening s) rounds q U st → (run : Run) × LawfulRun s run × (tail : List ℕ) × (text_of run ≡ (head_text ++ rounds_text 0 rounds) ++ tail)
+pub rounds_begin : (s : Script) (rounds : List Round) (q U : ℕ) (st : Standing) → IsTrue (is_sound s) → Passes s 0 s.start (opening s) rounds q U st → (run : Run) × LawfulRun s run × (tail : List ℕ) × (text_of run ≡ (head_text ++ rounds_text 0 rounds) ++ tail)
 rounds_begin s rounds q U st sound h =
     let g = runs_go_on s rounds q U st [] sound h tt in
     let later = record { tick = U; entries = g.1 } ∷ g.2 in
@@ -126,7 +127,7 @@ appends_none : (a : Option (List ℕ)) → Appends a a []
 appends_none None = tt
 appends_none (Some s) = ap Some (sym (append-nil s))
 
-front_none : (a : Option (List ℕ)) (y : List ℕ) → AppendsFront a a y
+pub front_none : (a : Option (List ℕ)) (y : List ℕ) → AppendsFront a a y
 front_none a y = ([], y, refl, appends_none a)
 
 -- nothing is written yet
@@ -259,20 +260,20 @@ after_error (Ok x) P p = tt
 after_error (Err e) P p = p
 
 -- a round was added, and the run goes on
-pub adds_round : (s : Script) (q U : ℕ) (old new : Engine) (before after : List ℕ) (over rest : Bool) (es : List Entry) → RoundOf s q U (standing_of s old) (made U new) (standing_of s new) → IsReady s (q + 1) new → over ≡ rest || (q + 1 == s.rounds) → rest ≡ is_at_rest s q (standing_of s new) → es ≡ new.log.entries → over ≡ false → after ≡ before ++ round_text q U es → Adds s q U old new before after over
+pub adds_round : (s : Script) (q U : ℕ) (old new : Engine) (before after : List ℕ) (over rest : Bool) (es : List Entry) → RoundOf s q U (standing_of s old) (made U new) (standing_of s new) → IsReady s (q + 1) new → over ≡ is_last s q new → rest ≡ is_at_rest s q (standing_of s new) → es ≡ new.log.entries → over ≡ false → after ≡ before ++ round_text q U es → Adds s q U old new before after over
 adds_round s q U old new before after over rest es is ready test still entries on text = record {
   round = is;
   ready = ready;
-  last = test ∙ ap (λ b. b || (q + 1 == s.rounds)) still;
+  last = test;
   text = text ∙ ap (λ t. before ++ t) (ap (λ es. round_text q U es) entries ∙ sym (append-nil _) ∙ ap (λ (b : Bool). round_text q U new.log.entries ++ (if b then end_text (is_at_rest s q (standing_of s new)) q else [])) (sym on));
 }
 
 -- a round was added, and the end line
-pub adds_end : (s : Script) (q U : ℕ) (old new : Engine) (before here after : List ℕ) (over rest : Bool) (es : List Entry) → RoundOf s q U (standing_of s old) (made U new) (standing_of s new) → IsReady s (q + 1) new → over ≡ rest || (q + 1 == s.rounds) → rest ≡ is_at_rest s q (standing_of s new) → es ≡ new.log.entries → over ≡ true → here ≡ before ++ round_text q U es → after ≡ here ++ end_text rest q → Adds s q U old new before after over
+pub adds_end : (s : Script) (q U : ℕ) (old new : Engine) (before here after : List ℕ) (over rest : Bool) (es : List Entry) → RoundOf s q U (standing_of s old) (made U new) (standing_of s new) → IsReady s (q + 1) new → over ≡ is_last s q new → rest ≡ is_at_rest s q (standing_of s new) → es ≡ new.log.entries → over ≡ true → here ≡ before ++ round_text q U es → after ≡ here ++ end_text rest q → Adds s q U old new before after over
 adds_end s q U old new before here after over rest es is ready test still entries end text all = record {
   round = is;
   ready = ready;
-  last = test ∙ ap (λ b. b || (q + 1 == s.rounds)) still;
+  last = test;
   text = all
       ∙ ap (λ t. t ++ end_text rest q) text
       ∙ append_assoc before (round_text q U es) (end_text rest q)
@@ -280,3 +281,29 @@ adds_end s q U old new before here after over rest es is ready test still entrie
       ∙ ap (λ b. before ++ (round_text q U new.log.entries ++ end_text b q)) still
       ∙ ap (λ (b : Bool). before ++ (round_text q U new.log.entries ++ (if b then end_text (is_at_rest s q (standing_of s new)) q else []))) (sym end);
 }
+
+-- ---- rounds that are counted
+
+-- whole rounds with the one that was made are a run where it is over
+pub run_ended : (s : Script) (rounds : List Round) (q U : ℕ) (old new : Engine) (after : AfterRound) → Plays s rounds q U old → Makes s q U old new after → after.over ≡ true → LawfulRun s (record { rounds = rounds ++ made U new ∷ []; rest = is_at_rest s q (standing_of s new) })
+run_ended s rounds q U old new after h makes over =
+    let st = standing_of s new in
+    goes-passes s (is_at_rest s q st) 0 s.start (opening s) rounds q U (standing_of s old) (made U new ∷ []) h.passes (ends_now s q U (standing_of s old) (made U new) st makes.round (sym makes.last ∙ over))
+
+-- whole rounds with the one that was made go on where it is not over
+pub rounds_on : (s : Script) (rounds : List Round) (q U : ℕ) (old new : Engine) (after : AfterRound) → IsTrue (is_sound s) → Plays s rounds q U old → Makes s q U old new after → after.over ≡ false → Plays s (rounds ++ made U new ∷ []) (q + 1) ((U + s.step) % 2 ^ 32) new
+rounds_on s rounds q U old new after sound h makes more =
+    let st = standing_of s new in
+    let on = goes_on s q new (sym more ∙ makes.last) in
+    let passes = passes_more s 0 s.start (opening s) rounds q U (standing_of s old) (made U new) st h.passes makes.round on.0 on.1 in
+    record {
+      passes = subst (λ (n : ℕ). Passes s 0 s.start (opening s) (rounds ++ made U new ∷ []) (q + 1) n st) (step_on s q U st sound) passes;
+      ready = makes.ready;
+    }
+
+pub plays_length : (s : Script) (rounds : List Round) (q U : ℕ) (e : Engine) → Plays s rounds q U e → length rounds ≡ q
+plays_length s rounds q U e h = let l = passes_length s 0 s.start (opening s) rounds q U (standing_of s e) h.passes in omega arith
+
+-- nothing is made yet
+pub plays_none : (s : Script) (e : Engine) → standing_of s e ≡ opening s → IsReady s 0 e → Plays s [] 0 s.start e
+plays_none s e stands ready = record { passes = (refl, refl, stands); ready = ready }

@@ -1,8 +1,12 @@
 -- What each answer of the top call says (docs/MODEL.md, "Answers").
-use Rattle.std.specs.Prelude.{◌≡◌, ℕ, ◌≤◌, ◌⊎◌, Bool, true, false, List, [], ◌∷◌, length, bytes_eq, codes, Option, Result, Ok, Err}
+use Rattle.std.specs.Prelude.{◌≡◌, ℕ, ◌≤◌, ◌⊎◌, Bool, true, false, List, [], length, Option, Some, None, IfSome, Result, Ok, Err}
 use Rattle.sched_base.specs.Streams.{Reads, Appends, AppendsFront}
 use Rattle.step_tables.specs.declared.faults.ScriptFault.{ScriptFault}
 use Rattle.step_tables.specs.declared.tables.Script.{Script}
+use Rattle.step_tables.specs.Judging.{script_of}
+use Rattle.command_line.specs.declared.command.Command.{Command}
+use Rattle.command_line.specs.declared.command.Command.TheVariants.{Run as RunScript, Replay, Gen}
+use Rattle.script_gen.specs.Generated.{generated}
 use Rattle.run_model.specs.Run.{Run}
 use Rattle.run_texts.specs.RunLines.{lines_of_run}
 use Rattle.run_texts.specs.RunText.{text_of}
@@ -10,12 +14,14 @@ use Rattle.transcript.specs.Judging.{lines_of}
 use Rattle.taskrun.specs.declared.status.Status.{Status}
 use Rattle.taskrun.specs.declared.status.Status.TheVariants.{Done, ScriptRefused, Usage, ReadFault, WriteFault, NoMemory, NotLawful, TextRefused}
 use Rattle.taskrun.specs.Headline.{IsRunOf}
+use Rattle.taskrun.specs.Summary.{summary_of}
 
--- whether the words of a command line are the one word run
-abbrev pub is_run : List (List ℕ) → Bool
-is_run [] = false
-is_run (word ∷ []) = bytes_eq word (codes "run")
-is_run (word ∷ other ∷ words) = false
+-- whether the words are no command that is carried out: replay is not, for now
+abbrev pub is_unserved : Option Command → Bool
+is_unserved None = true
+is_unserved (Some RunScript) = false
+is_unserved (Some Replay) = true
+is_unserved (Some (Gen seed size)) = false
 
 -- the number of an answer, which is the exit status of the program
 abbrev pub code_of : Status → ℕ
@@ -65,6 +71,68 @@ Expected read (ScriptRefused fault) = IsRefused read fault
 Expected read NoMemory = Unit {0}
 Expected read status = ⊥
 
+-- the whole summary of a run of the script was written
+abbrev pub WroteSummary : Option (List ℕ) → Option (List ℕ) → Script → Type 0
+WroteSummary before after script = (run : Run) × IsRunOf script run × Appends before after (summary_of script run)
+
+-- a first part of the summary of a run of the script was written
+abbrev pub WroteSummaryFront : Option (List ℕ) → Option (List ℕ) → Script → Type 0
+WroteSummaryFront before after script = (run : Run) × IsRunOf script run × AppendsFront before after (summary_of script run)
+
+-- what an answer says where a script was generated
+abbrev pub Sums : Script → Option (List ℕ) → Option (List ℕ) → Status → Type 0
+Sums script before after Done = WroteSummary before after script
+Sums script before after WriteFault = WroteSummaryFront before after script
+Sums script before after NoMemory = (after ≡ before) ⊎ WroteSummaryFront before after script
+Sums script before after status = ⊥
+
+-- what an answer says, by the command, of the bytes that the source had and of what the sink held before and holds after
+abbrev pub AnswersTo : Option Command → Option (List ℕ) → Option (List ℕ) → Option (List ℕ) → Status → Type 0
+AnswersTo None source before after status = after ≡ before
+AnswersTo (Some RunScript) source before after status = IfSome source (λ bytes. Answers (script_of bytes) before after status)
+AnswersTo (Some Replay) source before after status = after ≡ before
+AnswersTo (Some (Gen seed size)) source before after status = Sums (generated seed size) before after status
+
+-- an answer of a command that sums up a run
+abbrev pub IsSumming : Status → Type 0
+IsSumming Done = Unit {0}
+IsSumming WriteFault = Unit {0}
+IsSumming NoMemory = Unit {0}
+IsSumming status = ⊥
+
+-- the size of a script that is to be generated is 1 to 4,096
+abbrev pub HasSize : Option Command → Type 0
+HasSize None = Unit {0}
+HasSize (Some RunScript) = Unit {0}
+HasSize (Some Replay) = Unit {0}
+HasSize (Some (Gen seed size)) = (1 ≤ size) × (size ≤ 4096)
+
+-- usage, or want of memory
+abbrev pub IsUsage : Status → Type 0
+IsUsage Usage = Unit {0}
+IsUsage NoMemory = Unit {0}
+IsUsage status = ⊥
+
+-- all was written, or want of memory
+abbrev pub IsDone : Status → Type 0
+IsDone Done = Unit {0}
+IsDone NoMemory = Unit {0}
+IsDone status = ⊥
+
+-- the answer that comes, by the command, where no stream fails
+abbrev pub ExpectedOf : Option Command → Option (List ℕ) → Status → Type 0
+ExpectedOf None source status = IsUsage status
+ExpectedOf (Some RunScript) source status = IfSome source (λ bytes. Expected (script_of bytes) status)
+ExpectedOf (Some Replay) source status = IsUsage status
+ExpectedOf (Some (Gen seed size)) source status = IsDone status
+
+-- whether the command reads the source
+abbrev pub reads_source : Option Command → Bool
+reads_source None = false
+reads_source (Some RunScript) = true
+reads_source (Some Replay) = false
+reads_source (Some (Gen seed size)) = false
+
 -- an answer that comes once the script's text is read
 abbrev pub IsRunning : Status → Type 0
 IsRunning Done = Unit {0}
@@ -80,11 +148,11 @@ IsUnwritten Usage = Unit {0}
 IsUnwritten ReadFault = Unit {0}
 IsUnwritten status = ⊥
 
--- an answer of the command run
-abbrev pub IsOfRun : Status → Type 0
-IsOfRun (NotLawful line) = ⊥
-IsOfRun (TextRefused fault) = ⊥
-IsOfRun status = Unit {0}
+-- an answer that comes so far
+abbrev pub IsServed : Status → Type 0
+IsServed (NotLawful line) = ⊥
+IsServed (TextRefused fault) = ⊥
+IsServed status = Unit {0}
 
 -- at most so many bytes were read
 abbrev pub ReadsAtMost : ℕ → Option (List ℕ) → Option (List ℕ) → Type 0

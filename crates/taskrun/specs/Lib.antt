@@ -1,4 +1,6 @@
 pub mod Headline
+pub mod Summary
 pub mod Answers
-pub mod CommandLine
+pub mod ErrorLines
+pub mod Arguments
 pub mod Rounds

@@ -1,17 +1,21 @@
-//! `taskrun`: runs scripts of tasks, and writes every call on shared task state with its reply.
+//! `taskrun`: runs scripts of tasks, and writes every call on shared task state with its reply, or a
+//! summary of the run.
 #![tactic(auto)]
 
-mod command_line;
+mod arguments;
+mod counting;
+mod error_lines;
 mod pieces;
 mod rounds;
 mod status;
+mod summary;
 #[cfg(test)]
 mod tests;
 mod top;
 #[cfg(test)]
 mod worked;
 
-pub use command_line::answer;
+pub use arguments::answer;
 use sched_base::{OpenGate, StdSink, StdSource};
 pub use status::Status;
 use std::env;

@@ -5,7 +5,7 @@ ghost use Rattle.sched_base.specs.Streams.{Rose};
 ghost use Rattle.step_tables.specs.Sound.{is_sound};
 ghost use Rattle.run_model.specs.Run.{Round};
 ghost use Rattle.taskrun.specs.Answers.{Wrote, WroteFront};
-ghost use Rattle.taskrun.specs.Rounds.{Plays, Adds, Underway};
+ghost use Rattle.taskrun.specs.Rounds.{Plays, Makes, Adds, Underway};
 ghost use Rattle.taskrun.specs.declared.rounds.PlayError.TheVariants.{Fault, Memory};
 
 use crate::pieces::write_all;
@@ -101,15 +101,39 @@ fn add_round(
     ensures added { IfOk result (λ over. Adds script.now round tick engine.old engine.new text.old.items text.new.items over) }
     ensures sound { IsTrue (is_sound script.now) }
 {
+    let after = make_round(engine, script, round, tick)?;
+    write_round(text, round, tick, engine.entries())?;
+    if after.over {
+        write_end(text, after.rest, round)?;
+    }
+    Ok(after.over)
+}
+
+/// What is to be known after a round.
+#[derive(Clone, Copy, Debug)]
+pub(crate) struct AfterRound {
+    /// Whether all rests.
+    pub rest: bool,
+    /// Whether the run is over.
+    pub over: bool,
+}
+
+/// Makes a round of a script, whose entries the engine has then.
+pub(crate) fn make_round(
+    engine: &mut Engine,
+    script: &Script,
+    round: u32,
+    tick: u32,
+) -> Result<AfterRound, AllocError>
+    requires { (rounds : List Round) × Plays script.now rounds round tick engine.old }
+    ensures made { IfOk result (λ after. Makes script.now round tick engine.old engine.new after) }
+    ensures sound { IsTrue (is_sound script.now) }
+{
     let rounds = script.rounds();
     engine.round(script, round, tick)?;
-    write_round(text, round, tick, engine.entries())?;
     let rest = engine.is_at_rest(script, round);
     let over = is_over(rest, round, rounds);
-    if over {
-        write_end(text, rest, round)?;
-    }
-    Ok(over)
+    Ok(AfterRound { rest, over })
 }
 
 /// Whether a run of at most this many rounds is over after a round, at rest or not.

@@ -1,5 +1,6 @@
 //! The program over streams in memory.
 
+use crate::error_lines::tell;
 use crate::worked::*;
 use crate::{Status, answer, taskrun};
 use sched_base::{MemSink, MemSource, OpenGate, StdSink, StdSource};
@@ -8,6 +9,8 @@ use std::env::Args;
 use std::io::{self, ErrorKind};
 use std::process::ExitCode;
 use std::test::Fail;
+use step_tables::ScriptFault;
+use transcript::TextFault;
 
 /// How the streams of a run give and take bytes.
 #[derive(Clone, Copy)]
@@ -32,7 +35,7 @@ struct Outcome {
     code: u8,
     exit: ExitCode,
     text: Vec<u8>,
-    complaints: usize,
+    complaint: Vec<u8>,
 }
 
 fn listed(alloc: Global, fails: Option<u64>) -> Result<Vec<u64>, AllocError> {
@@ -79,7 +82,7 @@ fn run_by(
         code: status.code(),
         exit: ExitCode::from(status),
         text,
-        complaints: err.held().len(),
+        complaint: Vec::from_slice(alloc, err.held())?,
     })
 }
 
@@ -88,30 +91,79 @@ fn is_front(text: &[u8], whole: &str) -> bool {
     whole.as_bytes().get(..text.len()) == Some(text)
 }
 
+/// The line that tells of usage.
+const USAGE: &str = "usage: taskrun run, taskrun replay or taskrun gen SEED SIZE\n";
+
 #[test]
 fn answers_worked_scripts(rt: HostRuntime) -> Result<(), Fail> {
     let cases = [
-        ("run", FIRST, 0, FIRST_TEXT),
-        ("run", EMPTY, 0, EMPTY_TEXT),
-        ("run", SELF_WAKE, 0, SELF_WAKE_TEXT),
-        ("run", TIMER, 0, TIMER_TEXT),
-        ("run", CHECK, 0, CHECK_TEXT),
-        ("run", TOGETHER, 0, TOGETHER_TEXT),
-        ("run", APART, 0, APART_TEXT),
-        ("run", SHARED, 0, SHARED_TEXT),
-        ("run", DRAWN_AGAIN, 0, DRAWN_AGAIN_TEXT),
-        ("run", PUSHED_AGAIN, 0, PUSHED_AGAIN_TEXT),
-        ("run", MOVED_TIMERS, 0, MOVED_TIMERS_TEXT),
-        ("run", "", 1, ""),
-        ("", FIRST, 2, ""),
-        ("gen 0 1", FIRST, 2, ""),
-        ("run now", FIRST, 2, ""),
+        ("run", FIRST, 0, FIRST_TEXT, ""),
+        ("run", EMPTY, 0, EMPTY_TEXT, ""),
+        ("run", SELF_WAKE, 0, SELF_WAKE_TEXT, ""),
+        ("run", TIMER, 0, TIMER_TEXT, ""),
+        ("run", CHECK, 0, CHECK_TEXT, ""),
+        ("run", TOGETHER, 0, TOGETHER_TEXT, ""),
+        ("run", APART, 0, APART_TEXT, ""),
+        ("run", SHARED, 0, SHARED_TEXT, ""),
+        ("run", DRAWN_AGAIN, 0, DRAWN_AGAIN_TEXT, ""),
+        ("run", PUSHED_AGAIN, 0, PUSHED_AGAIN_TEXT, ""),
+        ("run", MOVED_TIMERS, 0, MOVED_TIMERS_TEXT, ""),
+        ("run", "", 1, "", "script: line 1: Truncated\n"),
+        ("run", TIMER_CUT, 1, "", "script: line 9: Truncated\n"),
+        ("run", "taskscript 9\n", 1, "", "script: line 1: Header\n"),
+        ("", FIRST, 2, "", USAGE),
+        ("run now", FIRST, 2, "", USAGE),
+        ("replay", FIRST, 2, "", USAGE),
+        ("gen 01 5", FIRST, 2, "", USAGE),
+        ("--help", FIRST, 2, "", USAGE),
+        ("gen 0 1", FIRST, 0, SMALLEST_SUMMARY, ""),
+        ("gen 7 64", "", 0, SUMMARY_OF_64, ""),
     ];
-    for (line, script, code, text) in cases {
+    for (line, script, code, text, complaint) in cases {
         let outcome = run(rt.alloc(), line, script, CALM)?;
         assert_eq!(rt; outcome.code, code);
         assert_eq!(rt; outcome.text.as_slice(), text.as_bytes());
-        assert_eq!(rt; outcome.complaints, 0);
+        assert_eq!(rt; outcome.complaint.as_slice(), complaint.as_bytes());
+    }
+    Ok(())
+}
+
+// Every kind of fault has its name, and each number in a line is written whole.
+#[test]
+fn names_each_answer(rt: HostRuntime) -> Result<(), Fail> {
+    let script = |line, kind| Status::ScriptRefused(ScriptFault { line, kind });
+    let text = |line, kind| Status::TextRefused(TextFault { line, kind });
+    let cases = [
+        (Status::Done, ""),
+        (script(1, 1), "script: line 1: Header\n"),
+        (script(22, 2), "script: line 22: Word\n"),
+        (script(303, 3), "script: line 303: Number\n"),
+        (script(4, 4), "script: line 4: UnknownTask\n"),
+        (script(5, 5), "script: line 5: TwiceNamed\n"),
+        (script(6, 6), "script: line 6: RowTarget\n"),
+        (script(7, 7), "script: line 7: ExpiryBarred\n"),
+        (
+            script(u32::MAX, 8),
+            "script: line 4294967295: LimitPassed\n",
+        ),
+        (script(9, 9), "script: line 9: Truncated\n"),
+        (Status::Usage, USAGE),
+        (Status::ReadFault, "read fault\n"),
+        (Status::WriteFault, "write fault\n"),
+        (Status::NoMemory, "want of memory\n"),
+        (Status::NotLawful(13), "not lawful: line 13\n"),
+        (text(1, 1), "transcript: line 1: Line\n"),
+        (text(2, 2), "transcript: line 2: Order\n"),
+        (text(10, 3), "transcript: line 10: Truncated\n"),
+        (text(4, 4), "transcript: line 4: LimitPassed\n"),
+    ];
+    for (status, line) in cases {
+        let mut err = MemSink::new(rt.alloc(), 100, 7, Vec::new(rt.alloc()))?;
+        tell(&mut err, &status);
+        assert_eq!(rt; err.held(), line.as_bytes());
+        let mut full = MemSink::new(rt.alloc(), 8, 7, Vec::new(rt.alloc()))?;
+        tell(&mut full, &status);
+        assert!(rt; is_front(full.held(), line));
     }
     Ok(())
 }

@@ -27,6 +27,15 @@ pub(crate) const TIMER: &str =
 pub(crate) const TIMER_TEXT: &str =
     "taskrun 1\nround 0 tick 4294967290\nc0 get 0 0000000000000001\nc0 take 0 queued init live 0\nc0 drop 0 runs - live 1\nround 1 tick 4294967294\nc0 get 0 0000000000000000\nround 2 tick 2\nc0 get 0 0000000000000000\nround 3 tick 6\nc0 get 0 0000000000000000\nc0 wake 0 timer rest - live 1\nc0 take 0 queued timer live 1\nc0 kill 0 runs - live 2\nc0 drop 0 runs - killed 2\nc0 retire 0 queued - killed 2\nend rest 3\n";
 
+/// The first of its lines.
+pub(crate) const TIMER_CUT: &str =
+    "taskscript 1\nworkers 1\ndepth 200\nstart 4294967290\nstep 4\nrounds 10\ntask a home 0 nice 0 rows 2 init\nrow a 0 after 10 next 1\n";
+
+/// The summaries of the generated scripts of seed 0 with one task and of seed 7 with 64.
+pub(crate) const SMALLEST_SUMMARY: &str = "tasks 1\nrounds 33\ntakes 3\nwakes 2\nend rest 32\n";
+
+pub(crate) const SUMMARY_OF_64: &str = "tasks 64\nrounds 100\ntakes 192\nwakes 139\nend rest 99\n";
+
 /// A check with a timer, and a tasklet that is killed while it is queued.
 pub(crate) const CHECK: &str =
     "taskscript 1\nworkers 1\ndepth 200\nstart 1000\nstep 10\nrounds 20\ntask check home 0 nice 0 rows 2 init\ntasklet conn home 0 class urgent rows 1\nrow check 0 wake conn io after 20 next 1\nrow check 1 kill conn kill check next 1\nrow conn 0 next 0\nend\n";

@@ -1,0 +1,4 @@
+pub mod Walks
+pub mod Matched
+pub mod Dashes
+pub mod Sizes

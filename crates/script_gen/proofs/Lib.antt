@@ -1,0 +1,4 @@
+pub mod Homed
+pub mod Tasks
+pub mod Sound
+pub mod Closed

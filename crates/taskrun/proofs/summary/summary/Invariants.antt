@@ -1,0 +1,6 @@
+use Rattle.taskrun.specs.Rounds.{Counted}
+use Rattle.taskrun.proofs.summary.summary.Given as goal
+
+-- the rounds so far are made and counted
+abbrev pub invariant-loop-round : goal.invariant-loop-round
+invariant-loop-round l = Counted l.script l.round l.tick l.engine l.counts

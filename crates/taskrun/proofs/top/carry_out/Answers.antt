@@ -1,0 +1,8 @@
+-- A script that is to be generated has a size in range.
+use Rattle.std.proofs.Common.{map}
+use Rattle.std.specs.String.{string_bytes}
+use Rattle.taskrun.proofs.Served.{has_size}
+use Rattle.taskrun.proofs.top.carry_out.Goals as goal
+
+pub serve-requires : goal.serve-requires
+serve-requires g c = has_size c.in-Ok.command (map (λ word. string_bytes word) c.args.words.now) c.in-Ok.ensures

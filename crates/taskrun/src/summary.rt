@@ -1,0 +1,82 @@
+//! A run that is summed up and not written.
+
+ghost use Rattle.std.specs.Prelude.{◌≡◌, ◌+◌, ◌∷◌, ◌++◌, ◌<◌, ◌^◌, IfOk, IfErr, OnOk, OnErr, ◌≤◌};
+ghost use Rattle.std.specs.Prelude.{decimal, [], IsTrue};
+ghost use Rattle.step_tables.specs.Sound.{is_sound};
+ghost use Rattle.sched_base.specs.Streams.{Rose};
+ghost use Rattle.taskrun.specs.Answers.{WroteSummary, WroteSummaryFront};
+ghost use Rattle.taskrun.specs.Rounds.{IsSummary};
+ghost use Rattle.taskrun.specs.Summary.{summary_text};
+
+use crate::counting::Counts;
+use crate::pieces::write_all;
+use crate::rounds::{PlayError, make_round};
+use itoa::Buffer;
+use sched_base::Sink;
+use std::alloc::{AllocError, Global};
+use step_tables::Script;
+use text_lines::put_bytes;
+use thread_loop::Engine;
+use transcript::write_end;
+
+/// Runs a script, and writes the summary of the run. After an error the sink has a first part of the
+/// summary of such a run.
+pub(crate) fn sum_up<O: Sink>(alloc: Global, script: &Script, out: &mut O) -> Result<(), PlayError>
+    ensures ok { OnOk result (WroteSummary (O.held out.old) (O.held out.new) script.now) }
+    ensures err { OnErr result (WroteSummaryFront (O.held out.old) (O.held out.new) script.now) }
+    ensures fault { IfErr result (λ e. e ≡ PlayError.Fault → Rose (O.faults out.old) (O.faults out.new)) }
+    ensures counted { O.faults out.old ≤ O.faults out.new }
+{
+    let text = summary(alloc, script)?;
+    write_all(out, &text)?;
+    Ok(())
+}
+
+/// Runs a script, and gives the summary of the run.
+fn summary(alloc: Global, script: &Script) -> Result<Vec<u8>, AllocError>
+    ensures summary { IfOk result (λ text. IsSummary script.now text.items) }
+    ensures sound { IsTrue (is_sound script.now) }
+{
+    let mut tick = script.start();
+    let mut engine = Engine::new(alloc, script)?;
+    let mut counts = Counts::NONE;
+    for round in 0..script.rounds() {
+        let after = make_round(&mut engine, script, round, tick)?;
+        counts.add(engine.entries());
+        if after.over {
+            return summary_text(alloc, script.tasks().len(), round, &counts, after.rest);
+        }
+        tick = tick.wrapping_add(script.step());
+    }
+    unreachable!()
+}
+
+/// The summary of a run whose last round is `last`.
+fn summary_text(
+    alloc: Global,
+    tasks: usize,
+    last: u32,
+    counts: &Counts,
+    rest: bool,
+) -> Result<Vec<u8>, AllocError>
+    ensures { IfOk result (λ text. text.items ≡ summary_text tasks (last + 1) counts.now.takes counts.now.wakes rest) }
+{
+    let mut text = Vec::new(alloc);
+    put_count(&mut text, "tasks", tasks as u128)?;
+    put_count(&mut text, "rounds", u128::from(last) + 1)?;
+    put_count(&mut text, "takes", counts.takes)?;
+    put_count(&mut text, "wakes", counts.wakes)?;
+    write_end(&mut text, rest, last)?;
+    Ok(text)
+}
+
+/// Appends a line of a name and a number.
+fn put_count(text: &mut Vec<u8>, name: &str, count: u128) -> Result<(), AllocError>
+    ensures { OnOk result (text.new.items ≡ text.old.items ++ (name.now ++ (32 ∷ (decimal count ++ 10 ∷ [])))) }
+{
+    let mut buffer = Buffer::new();
+    put_bytes(text, name.as_bytes())?;
+    put_bytes(text, b" ")?;
+    put_bytes(text, buffer.format(count).as_bytes())?;
+    put_bytes(text, b"\n")
+}
