@@ -1,0 +1,12 @@
+//! The edges of a program: a whole text from a source, a whole text to a sink, and the words of a command line.
+#![tactic(auto)]
+
+mod reading;
+#[cfg(test)]
+mod tests;
+mod words;
+mod writing;
+
+pub use reading::{ReadError, read_all};
+pub use words::behind_first;
+pub use writing::write_all;

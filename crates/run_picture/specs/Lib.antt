@@ -1,0 +1,11 @@
+pub mod Steps
+pub mod Bars
+pub mod Stretches
+pub mod Scans
+pub mod Parts
+pub mod Drawing
+pub mod Inputs
+pub mod Requests
+pub mod Codes
+pub mod Answers
+pub mod Laws
