@@ -2,6 +2,7 @@
 //! classes, and streams of bytes that count their faults.
 #![tactic(auto)]
 
+mod calm;
 mod gates;
 mod keyed_lists;
 mod laws;
@@ -18,6 +19,7 @@ mod streams;
 #[cfg(test)]
 mod tests;
 
+pub use calm::{CalmSink, CalmSource};
 pub use gates::{Gate, OpenGate};
 pub use keyed_lists::KeyedLists;
 pub use laws::{deletions_keep_keyed, insertions_keep_keyed};

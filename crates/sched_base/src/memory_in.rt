@@ -53,7 +53,7 @@ impl MemSource {
 }
 
 /// Copies the first bytes of `from` to the front of `to`, as many as both have and at most `most`.
-fn copy_front(from: &[u8], to: &mut [u8], most: usize) -> usize
+pub(crate) fn copy_front(from: &[u8], to: &mut [u8], most: usize) -> usize
     ensures count { result ≡ min (min (length to.old) most) (length from.now) }
     ensures copied { take result to.new ≡ take result from.now }
     ensures same_len { length to.new ≡ length to.old }

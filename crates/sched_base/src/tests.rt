@@ -1,10 +1,12 @@
-//! Plain keyed lists on a small example.
+//! Plain keyed lists and calm streams on small examples.
 
 ghost use Rattle.std.specs.Prelude.{◌≡◌, ℕ, ◌+◌, ◌^◌, ◌<◌, ◌≤◌, length, IfOk};
 ghost use Rattle.sched_base.specs.KeyedList.{root_at};
 
+use crate::calm::{CalmSink, CalmSource};
 use crate::keyed_lists::KeyedLists;
 use crate::plain_lists::PlainLists;
+use crate::streams::{Sink, Source};
 use std::alloc::{AllocError, Global};
 use std::test::Fail;
 
@@ -67,5 +69,20 @@ fn items_stand_by_key_and_then_by_arrival(rt: HostRuntime) -> Result<(), Fail> {
     assert_eq!(rt; lists.root_of(3), Some(1));
     assert_eq!(rt; lists.root_of(5), None);
     assert_eq!(rt; (lists.insertions(0), lists.insertions(1)), (4, 1));
+    Ok(())
+}
+
+#[test]
+fn calm_streams_give_and_take_all(rt: HostRuntime) -> Result<(), Fail> {
+    let mut source = CalmSource::new(vec![in rt.alloc(); 1, 2, 3, 4, 5]?);
+    let mut buffer = [0; 3];
+    for (count, held) in [(3, [1, 2, 3]), (2, [4, 5, 3]), (0, [4, 5, 3])] {
+        assert_eq!(rt; source.read(&mut buffer), Ok(count));
+        assert_eq!(rt; buffer, held);
+    }
+    let mut sink = CalmSink::new();
+    assert_eq!(rt; sink.write(&buffer), Ok(3));
+    assert_eq!(rt; sink.write(&buffer[..1]), Ok(1));
+    assert_eq!(rt; sink.count(), 4);
     Ok(())
 }
