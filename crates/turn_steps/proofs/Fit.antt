@@ -35,7 +35,7 @@ pub record Sound (s : Script) : Type 0 where
 pub sound_parts : (s : Script) → IsTrue (is_sound s) → Sound s
 unfolding is_sound
 sound_parts s h =
-    let v = both (s.version == 1) _ h in
+    let v = both (within 1 2 s.version) _ h in
     let a = both (within 1 16 s.workers) _ v.1 in
     let b = both (within 1 1000 s.depth) _ a.1 in
     let c = both (leb s.start 4294967295) _ b.1 in

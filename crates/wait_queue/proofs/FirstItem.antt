@@ -63,11 +63,8 @@ module _ (now entry : ℕ) (q : Timers) (s : KeyedRoots) (f : Fits q s) (keyed :
     none = ap (λ (w : WaitList). due now w) list_is ∙ none_due now one others (ap (λ j. is_expired j now) (sym (key_is k e)) ∙ d) ordered;
   }
 
-  -- once the first item is out and its key is expired
-  module _ (k : ℕ) (e : key_of_entry entry (root_at q.root s).items ≡ Some k) (d : is_expired k now ≡ true) (s' : KeyedRoots) (out : s' ≡ deleted_from q.root entry s) where
-    pub is_due_one : is_due now one ≡ true
-    is_due_one = ap (λ j. is_expired j now) (sym (key_is k e)) ∙ d
-
+  -- once the first item is out
+  module _ (s' : KeyedRoots) (out : s' ≡ deleted_from q.root entry s) where
     pub fits_out : Fits q s'
     fits_out = rw out (fits_after_deletion q s f entry)
 
@@ -93,6 +90,40 @@ module _ (now entry : ℕ) (q : Timers) (s : KeyedRoots) (f : Fits q s) (keyed :
         ∙ ap (λ (l : KeyedList). let w : WaitList = record { items = map wait_item (walked now l.items); expiries = q.expiries } in w) (at_root q.root (without_entry entry (root_at q.root s)) s f.exists)
         ∙ ap (λ (xs : List KeyedItem). let w : WaitList = record { items = map wait_item xs; expiries = q.expiries } in w) rest
 
+    pub free_out : IsFree entry s'
+    free_out = subst (λ x. IsFree x s') (sym entry_is) (free_task q s' fits_out (entry / 2) task_exists (subst (λ x. holds x (root_at q.root s') ≡ false) entry_is (ap (λ (u : KeyedRoots). holds entry (root_at q.root u)) out ∙ free_after_deletion q s f entry)))
+
+    pub exists_out : entry < s'.entries
+    exists_out = subst (λ x. x < s'.entries) (sym entry_is) (entry_exists q s' fits_out (entry / 2) task_exists)
+
+    -- and in again, at the expiry of its task
+    module _ (t : ℕ) (tick : t < 2 ^ 32) (armed : is_set t ≡ true) (s'' : KeyedRoots) (back : s'' ≡ inserted_into q.root entry t s') where
+      pub back' : s'' ≡ inserted_into q.root (entry_of (entry / 2)) t s'
+      back' = back ∙ ap (λ x. inserted_into q.root x t s') entry_is
+
+      pub fits_back : Fits q s''
+      fits_back = rw back' (fits_after_insertion q s' fits_out (entry / 2) t task_exists (set_positive t armed) tick)
+
+      pub changes_back : ChangesRoot q.root s s''
+      changes_back = changes_both q.root s s' s'' changes_out (rw back (changes_root q.root (with_entry t entry (root_at q.root s')) s'))
+
+      pub inserts_back : Inserts 1 q s s''
+      inserts_back =
+          let c : insertions_of q s'' ≡ insertions_of q s + 1 = ap (insertions_of q) back ∙ insertions_after_insertion q s' fits_out entry t ∙ ap (λ k. k + 1) count_out in
+          record { grows = omega arith; bound = omega arith }
+
+      pub places_back : wait_list now q s'' ≡ record { items = placed now one.task t others; expiries = q.expiries }
+      places_back =
+          ap (λ (u : KeyedRoots). wait_list now q u) back'
+          ∙ insertion_places q s' fits_out keyed_out now (entry / 2) t n tick
+          ∙ ap (λ (l : WaitList). let m : WaitList = record { items = placed now (entry / 2) t l.items; expiries = q.expiries } in m) left_is
+          ∙ ap (λ i. let m : WaitList = record { items = placed now i t others; expiries = q.expiries } in m) (sym task_is)
+
+  -- once the first item is out and its key is expired
+  module _ (k : ℕ) (e : key_of_entry entry (root_at q.root s).items ≡ Some k) (d : is_expired k now ≡ true) (s' : KeyedRoots) (out : s' ≡ deleted_from q.root entry s) where
+    pub is_due_one : is_due now one ≡ true
+    is_due_one = ap (λ j. is_expired j now) (sym (key_is k e)) ∙ d
+
     pub due_old : due now (wait_list now q s) ≡ one ∷ filter (is_due now) others
     due_old = ap (λ (w : WaitList). due now w) list_is ∙ rw is_due_one refl
 
@@ -112,14 +143,14 @@ module _ (now entry : ℕ) (q : Timers) (s : KeyedRoots) (f : Fits q s) (keyed :
           some = let b : length (due now (wait_list now q s)) ≡ length (one ∷ filter (is_due now) others) = ap length due_old in omega arith;
           fired = ap (λ (l : WaitList). first_fired now l) list_is ∙ p.0 ∙ ap (λ i. Some i) task_is;
           list =
-              ap (λ (l : WaitList). let m : WaitList = record { items = l.items; expiries = set q.expiries (entry / 2) 0 } in m) left_is
+              ap (λ (l : WaitList). let m : WaitList = record { items = l.items; expiries = set q.expiries (entry / 2) 0 } in m) (left_is s' out)
               ∙ ap (λ i. let m : WaitList = record { items = others; expiries = set q.expiries i 0 } in m) (sym task_is)
               ∙ sym p.1
               ∙ ap (λ (l : WaitList). swept_once now l) (sym list_is);
         }
 
     pub fits_fired : Fits (unset (entry / 2) q) s'
-    fits_fired = fits_after_change q (unset (entry / 2) q) s' refl (length-set q.expiries (entry / 2) 0) fits_out
+    fits_fired = fits_after_change q (unset (entry / 2) q) s' refl (length-set q.expiries (entry / 2) 0) (fits_out s' out)
 
     -- it is forgotten
     pub passes_forgotten : (t : ℕ) → t ≡ get_or q.expiries (entry / 2) 0 → is_set t ≡ false → Passes now (wait_list now q s) (wait_list now q s')
@@ -127,31 +158,18 @@ module _ (now entry : ℕ) (q : Timers) (s : KeyedRoots) (f : Fits q s) (keyed :
         let never : is_set (get_or q.expiries one.task 0) ≡ false = ap (λ i. is_set (get_or q.expiries i 0)) task_is ∙ ap is_set (sym is) ∙ x in
         let p = step_forgets now one others q.expiries is_due_one never in
         record {
-          fired = ap (λ (l : WaitList). first_fired now l) left_is ∙ p.fired ∙ ap (λ (l : WaitList). first_fired now l) (sym list_is);
-          list = ap (λ (l : WaitList). swept_once now l) left_is ∙ p.list ∙ ap (λ (l : WaitList). swept_once now l) (sym list_is);
-          fewer = shorter (wait_list now q s') (ap (λ (w : WaitList). due now w) left_is);
+          fired = ap (λ (l : WaitList). first_fired now l) (left_is s' out) ∙ p.fired ∙ ap (λ (l : WaitList). first_fired now l) (sym list_is);
+          list = ap (λ (l : WaitList). swept_once now l) (left_is s' out) ∙ p.list ∙ ap (λ (l : WaitList). swept_once now l) (sym list_is);
+          fewer = shorter (wait_list now q s') (ap (λ (w : WaitList). due now w) (left_is s' out));
         }
-
-    pub free_out : IsFree entry s'
-    free_out = subst (λ x. IsFree x s') (sym entry_is) (free_task q s' fits_out (entry / 2) task_exists (subst (λ x. holds x (root_at q.root s') ≡ false) entry_is (ap (λ (u : KeyedRoots). holds entry (root_at q.root u)) out ∙ free_after_deletion q s f entry)))
-
-    pub exists_out : entry < s'.entries
-    exists_out = subst (λ x. x < s'.entries) (sym entry_is) (entry_exists q s' fits_out (entry / 2) task_exists)
 
     -- it goes back in
     module _ (t : ℕ) (is : t ≡ get_or q.expiries (entry / 2) 0) (tick : t < 2 ^ 32) (later : is_expired t now ≡ false) (armed : is_set t ≡ true) (s'' : KeyedRoots) (back : s'' ≡ inserted_into q.root entry t s') where
-      pub back' : s'' ≡ inserted_into q.root (entry_of (entry / 2)) t s'
-      back' = back ∙ ap (λ x. inserted_into q.root x t s') entry_is
-
       pub passes_back : Passes now (wait_list now q s) (wait_list now q s'')
       passes_back =
           let own : t ≡ get_or q.expiries one.task 0 = is ∙ ap (λ i. get_or q.expiries i 0) (sym task_is) in
           let p = step_puts_back now one others q.expiries t own is_due_one later armed ordered in
-          let now_is : wait_list now q s'' ≡ record { items = placed now one.task t others; expiries = q.expiries } =
-          ap (λ (u : KeyedRoots). wait_list now q u) back'
-          ∙ insertion_places q s' fits_out keyed_out now (entry / 2) t n tick
-          ∙ ap (λ (l : WaitList). let m : WaitList = record { items = placed now (entry / 2) t l.items; expiries = q.expiries } in m) left_is
-          ∙ ap (λ i. let m : WaitList = record { items = placed now i t others; expiries = q.expiries } in m) (sym task_is) in
+          let now_is : wait_list now q s'' ≡ record { items = placed now one.task t others; expiries = q.expiries } = places_back s' out t tick armed s'' back in
           let due_new : due now (wait_list now q s'') ≡ filter (is_due now) others =
           ap (λ (w : WaitList). due now w) now_is
           ∙ filter-inserted_out (is_due now) (λ (z : WaitItem). int_le (distance z.key now) (distance t now)) (record { key = t; task = one.task }) others later in
@@ -160,14 +178,3 @@ module _ (now entry : ℕ) (q : Timers) (s : KeyedRoots) (f : Fits q s) (keyed :
             list = ap (λ (l : WaitList). swept_once now l) now_is ∙ p.list ∙ ap (λ (l : WaitList). swept_once now l) (sym list_is);
             fewer = shorter (wait_list now q s'') due_new;
           }
-
-      pub fits_back : Fits q s''
-      fits_back = rw back' (fits_after_insertion q s' fits_out (entry / 2) t task_exists (set_positive t armed) tick)
-
-      pub changes_back : ChangesRoot q.root s s''
-      changes_back = changes_both q.root s s' s'' changes_out (rw back (changes_root q.root (with_entry t entry (root_at q.root s')) s'))
-
-      pub inserts_back : Inserts 1 q s s''
-      inserts_back =
-          let c : insertions_of q s'' ≡ insertions_of q s + 1 = ap (insertions_of q) back ∙ insertions_after_insertion q s' fits_out entry t ∙ ap (λ k. k + 1) count_out in
-          record { grows = omega arith; bound = omega arith }

@@ -247,13 +247,18 @@ tasks_below tasks (x ∷ xs) all i h =
       | inr e ↦ tasks_below tasks xs all.1 i (rw e at h)
     ]
 
-pub due_bound : (now : ℕ) (q : Timers) (s : KeyedRoots) → Fits q s → AreKeyed s → length (due now (wait_list now q s)) ≤ length q.expiries
-due_bound now q s f keyed =
+pub items_bound : (now : ℕ) (q : Timers) (s : KeyedRoots) → Fits q s → AreKeyed s → length (wait_list now q s).items ≤ length q.expiries
+items_bound now q s f keyed =
     let items : List KeyedItem = walked now (root_at q.root s).items in
     let timers : AllByRecursion (IsTimer (length q.expiries)) items = all-walked (IsTimer (length q.expiries)) now (root_at q.root s).items f.timers in
     let count : length (map (λ (y : KeyedItem). y.entry / 2) items) ≤ length q.expiries = length-le_from_distinct_below _ (length q.expiries) (tasks_distinct (length q.expiries) items timers (once_walked now (root_at q.root s).items (keyed.keyed q.root f.exists).once)) (tasks_below (length q.expiries) items timers) in
-    let part : length (filter (is_due now) (map wait_item items)) ≤ length (map wait_item items) = fewer (is_due now) (map wait_item items) in
     omega (arith, length-map items (λ (y : KeyedItem). y.entry / 2), length-map items wait_item)
+
+pub due_bound : (now : ℕ) (q : Timers) (s : KeyedRoots) → Fits q s → AreKeyed s → length (due now (wait_list now q s)) ≤ length q.expiries
+due_bound now q s f keyed =
+    let all : length (wait_list now q s).items ≤ length q.expiries = items_bound now q s f keyed in
+    let part : length (filter (is_due now) (wait_list now q s).items) ≤ length (wait_list now q s).items = fewer (is_due now) (wait_list now q s).items in
+    omega arith
   where
     fewer : {X : Type 0} (p : X → Bool) (xs : List X) → length (filter p xs) ≤ length xs
     fewer p [] = omega arith

@@ -1,3 +1,4 @@
+pub mod Earliest
 pub mod Laws
 pub mod Looks
 pub mod Timers

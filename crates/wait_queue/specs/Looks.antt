@@ -1,7 +1,9 @@
--- What one look at the first item of a wait list comes to (docs/TIMERS.md, "Sweeps in steps").
-use Rattle.std.specs.Prelude.{◌≡◌, ℕ, ◌<◌, [], Some, length}
+-- What one look at the first item of a wait list comes to, in a sweep and as the list settles (docs/TIMERS.md, "Sweeps in
+-- steps" and "Settling").
+use Rattle.std.specs.Prelude.{◌≡◌, ℕ, ◌<◌, [], None, Some, length}
 use Rattle.queue_model.specs.WaitList.{WaitList}
 use Rattle.queue_model.specs.Sweep.{due}
+use Rattle.queue_model.specs.Settle.{moved_on}
 use Rattle.queue_model.specs.SweepStep.{first_fired, swept_once}
 use Rattle.wait_queue.specs.declared.wait_queue.Look.{Look}
 use Rattle.wait_queue.specs.declared.wait_queue.Look.TheVariants.{Settled, Passed, Fired}
@@ -34,3 +36,12 @@ abbrev pub IfSettled : Look → Type 0 → Type 0
 IfSettled Settled P = P
 IfSettled Passed P = Unit {0}
 IfSettled (Fired id) P = Unit {0}
+
+-- the first item did not stand at its expiry, and moved
+pub record Moved (now : ℕ) (old new : WaitList) : Type 0 where
+  pub items : moved_on now old old.items ≡ Some new.items
+  pub expiries : new.expiries ≡ old.expiries
+
+-- there is no first item, or it stands at its expiry
+abbrev pub IsLeft : ℕ → WaitList → Type 0
+IsLeft now l = moved_on now l l.items ≡ None

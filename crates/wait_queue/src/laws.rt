@@ -1,5 +1,6 @@
 //! Laws of wait lists: each function does nothing, and its contract is the law.
 
+ghost use Rattle.wait_queue.specs.Earliest.{SettledQueuesTell, StayLate};
 ghost use Rattle.wait_queue.specs.Laws.{StepsComeToTheSweep, TimersAreEven, WaitListsStay, WaitQueuesStayBeside};
 
 /// Calls of `sweep_next` at one tick until it answers none, with no other call between, are the
@@ -26,4 +27,18 @@ pub fn wait_queues_stay_beside()
 #[tactic(auto, using(crate::proofs::Beside::own_entries))]
 pub fn timers_are_even()
     ensures { TimersAreEven }
+{}
+
+/// Once a queue is settled, its next expiry is the earliest expiry of all items, and there is none
+/// exactly where it has no item, while no item has an expiry before its key.
+#[tactic(auto, using(crate::proofs::Early::queues_tell))]
+pub fn settled_queues_tell()
+    ensures { SettledQueuesTell }
+{}
+
+/// Settling leaves no item with an expiry before its key where there was none, and in a window there is
+/// none.
+#[tactic(auto, using(crate::proofs::Early::stay_late))]
+pub fn expiries_stay_late()
+    ensures { StayLate }
 {}

@@ -8,7 +8,7 @@ mod tests;
 mod wait_queue;
 
 pub use laws::{
-    steps_come_to_the_sweep, timers_are_even, wait_lists_stay_in_the_window,
-    wait_queues_stay_beside,
+    expiries_stay_late, settled_queues_tell, steps_come_to_the_sweep, timers_are_even,
+    wait_lists_stay_in_the_window, wait_queues_stay_beside,
 };
 pub use wait_queue::WaitQueue;

@@ -15,6 +15,7 @@ enum Call {
     Arm(u32, u32),
     Unlink(u32),
     Sweep(u32),
+    Settle(u32),
     Key(u32),
     Next(u32),
     IsEmpty,
@@ -34,6 +35,7 @@ fn answer(queue: &mut WaitQueue, lists: &mut PlainLists, call: Call) -> Option<u
         Call::Arm(task, now) if task < 4 => queue.arm(lists, TaskId(task), now),
         Call::Unlink(task) if task < 4 => queue.unlink(lists, TaskId(task)),
         Call::Sweep(now) => return queue.sweep_next(lists, now).map(|id| id.0),
+        Call::Settle(now) => queue.settle(lists, now),
         Call::Key(task) if task < 4 => return queue.key(lists, TaskId(task)),
         Call::Next(now) => return queue.next_expiry(lists, now),
         Call::IsEmpty => return Some(u32::from(queue.is_empty(lists))),
@@ -90,6 +92,46 @@ fn an_expiry_that_moves_later_leaves_its_item(rt: HostRuntime) -> Result<(), Fai
         (Call::Key(0), Some(10)),
     ];
     assert!(rt; answers(alloc, earlier.as_slice())?);
+    Ok(())
+}
+
+#[test]
+fn a_list_settles_at_its_earliest_expiry(rt: HostRuntime) -> Result<(), Fail> {
+    let alloc = rt.alloc();
+    let later = [
+        (Call::Set(0, 20), None),
+        (Call::Arm(0, 1), None),
+        (Call::Set(0, 35), None),
+        (Call::Arm(0, 5), None),
+        (Call::Settle(6), None),
+        (Call::Key(0), Some(35)),
+        (Call::Next(6), Some(35)),
+    ];
+    assert!(rt; answers(alloc, later.as_slice())?);
+    let never = [
+        (Call::Set(0, 20), None),
+        (Call::Arm(0, 1), None),
+        (Call::Set(0, 0), None),
+        (Call::Arm(0, 5), None),
+        (Call::Settle(6), None),
+        (Call::IsEmpty, Some(1)),
+    ];
+    assert!(rt; answers(alloc, never.as_slice())?);
+    let several = [
+        (Call::Set(0, 4_294_967_295), None),
+        (Call::Set(1, 3), None),
+        (Call::Set(2, 5), None),
+        (Call::Arm(0, 4_294_967_290), None),
+        (Call::Arm(1, 4_294_967_290), None),
+        (Call::Arm(2, 4_294_967_290), None),
+        (Call::Set(0, 9), None),
+        (Call::Set(1, 0), None),
+        (Call::Settle(4_294_967_291), None),
+        (Call::Next(4_294_967_291), Some(5)),
+        (Call::Key(0), Some(9)),
+        (Call::Key(1), None),
+    ];
+    assert!(rt; answers(alloc, several.as_slice())?);
     Ok(())
 }
 

@@ -1,13 +1,14 @@
 //! The wait queue, over keyed lists that the caller lends.
 
-ghost use Rattle.std.specs.Prelude.{◌≡◌, ◌+◌, ◌^◌, ◌<◌, length, slice_index, replicate, IfOk, IfNone, [], ℕ};
+ghost use Rattle.std.specs.Prelude.{◌≡◌, ◌+◌, ◌^◌, ◌<◌, true, false, length, slice_index, replicate, IfOk, IfNone, [], ℕ};
 ghost use Rattle.std.specs.Option.{option_map};
 ghost use Rattle.sched_base.specs.KeyedList.{KeyedRoots, root_at, first_entry, ChangesRoot};
 ghost use Rattle.queue_model.specs.WaitList.{WaitList, expiry_of, with_expiry, armed, unlinked};
 ghost use Rattle.queue_model.specs.Sweep.{due};
 ghost use Rattle.queue_model.specs.SweepStep.{first_fired, swept_once};
+ghost use Rattle.queue_model.specs.Settle.{settled, IsSettled};
 ghost use Rattle.queue_model.specs.Walk.{walked};
-ghost use Rattle.wait_queue.specs.Looks.{Saw, IfSettled};
+ghost use Rattle.wait_queue.specs.Looks.{Saw, IfSettled, Moved, IsLeft};
 ghost use Rattle.wait_queue.specs.Timers.{wait_list, Fits, IsReady, IsSameQueue, Inserts, insertions_of, first_key, key_of_task, is_none_left};
 
 use sched_base::{KeyedLists, TaskId};
@@ -189,6 +190,50 @@ impl WaitQueue {
                 Look::Fired(id) => return Some(id),
             }
         }
+    }
+
+    /// Moves the item that is due first to its expiry, or forgets it where that is unset. False where there is no such
+    /// item, or it stands at its expiry.
+    fn settle_first<K: KeyedLists>(&mut self, lists: &mut K, now: u32) -> bool
+        requires fits { Fits self.old (K.seen lists.old) }
+        requires room { (IsLeft now (wait_list now self.old (K.seen lists.old)) → ⊥) → insertions_of self.old (K.seen lists.old) + 1 < 2 ^ 63 }
+        ensures moved { result ≡ true → Moved now (wait_list now self.old (K.seen lists.old)) (wait_list now self.new (K.seen lists.new)) }
+        ensures left { result ≡ false → IsLeft now (wait_list now self.old (K.seen lists.old)) × (K.seen lists.new ≡ K.seen lists.old) }
+        ensures fits { Fits self.new (K.seen lists.new) }
+        ensures others { ChangesRoot self.old.root (K.seen lists.old) (K.seen lists.new) }
+        ensures insertions { Inserts 1 self.old (K.seen lists.old) (K.seen lists.new) }
+        ensures queue { self.new ≡ self.old }
+    {
+        lists.stay_keyed();
+        let Some(entry) = self.first_walked(lists, now) else {
+            return false;
+        };
+        let expiry = self.expiries[(entry / 2) as usize];
+        if lists.key_of(entry) == expiry {
+            return false;
+        }
+        lists.delete(entry);
+        if !is_set(expiry) {
+            return true;
+        }
+        lists.insert(self.root, entry, expiry);
+        true
+    }
+
+    /// Settles the list, as seen from `now`: while the item that is due first does not stand at its expiry, it moves
+    /// there, or is forgotten where its expiry is unset. Afterwards the first key is the earliest expiry of all items.
+    pub fn settle<K: KeyedLists>(&mut self, lists: &mut K, now: u32)
+        requires fits { Fits self.old (K.seen lists.old) }
+        requires room { insertions_of self.old (K.seen lists.old) + length self.old.expiries < 2 ^ 63 }
+        ensures list { wait_list now self.new (K.seen lists.new) ≡ settled now (wait_list now self.old (K.seen lists.old)) }
+        ensures stays { IsSettled (wait_list now self.old (K.seen lists.old)) → K.seen lists.new ≡ K.seen lists.old }
+        ensures fits { Fits self.new (K.seen lists.new) }
+        ensures others { ChangesRoot self.old.root (K.seen lists.old) (K.seen lists.new) }
+        ensures insertions { Inserts (length self.old.expiries) self.old (K.seen lists.old) (K.seen lists.new) }
+        ensures queue { self.new ≡ self.old }
+    {
+        lists.stay_keyed();
+        while self.settle_first(lists, now) {}
     }
 
     /// The key of the item that is due first; none where there is no item.

@@ -106,7 +106,7 @@ returns-then-is_expired-clause-others g c =
     let d : is_expired k c.args.now ≡ true = sym c.if-not-is_expired.ensures in
     let s' : KeyedRoots = g.K.KeyedLists.seen c.delete.new.self in
     let out : s' ≡ deleted_from q.root entry lists = c.delete.ensures q.root w.stands in
-    changes_out c.args.now entry q lists c.requires.fits c.stay_keyed.ensures n h k e d s' out
+    changes_out c.args.now entry q lists c.requires.fits c.stay_keyed.ensures n h s' out
 
 pub returns-then-is_expired-clause-insertions : goal.returns-then-is_expired-clause-insertions
 returns-then-is_expired-clause-insertions g c =
@@ -121,7 +121,7 @@ returns-then-is_expired-clause-insertions g c =
     let d : is_expired k c.args.now ≡ true = sym c.if-not-is_expired.ensures in
     let s' : KeyedRoots = g.K.KeyedLists.seen c.delete.new.self in
     let out : s' ≡ deleted_from q.root entry lists = c.delete.ensures q.root w.stands in
-    inserts_out c.args.now entry q lists c.requires.fits c.stay_keyed.ensures n h k e d s' out
+    inserts_out c.args.now entry q lists c.requires.fits c.stay_keyed.ensures n h s' out
 
 pub returns-then-not-is_set-clause-saw : goal.returns-then-not-is_set-clause-saw
 returns-then-not-is_set-clause-saw g c =
@@ -154,7 +154,7 @@ returns-then-not-is_set-clause-fits g c =
     let d : is_expired k c.args.now ≡ true = sym c.if-not-is_expired.ensures in
     let s' : KeyedRoots = g.K.KeyedLists.seen c.delete.new.self in
     let out : s' ≡ deleted_from q.root entry lists = c.delete.ensures q.root w.stands in
-    fits_out c.args.now entry q lists c.requires.fits c.stay_keyed.ensures n h k e d s' out
+    fits_out c.args.now entry q lists c.requires.fits c.stay_keyed.ensures n h s' out
 
 pub returns-then-not-is_set-clause-others : goal.returns-then-not-is_set-clause-others
 returns-then-not-is_set-clause-others g c =
@@ -169,7 +169,7 @@ returns-then-not-is_set-clause-others g c =
     let d : is_expired k c.args.now ≡ true = sym c.if-not-is_expired.ensures in
     let s' : KeyedRoots = g.K.KeyedLists.seen c.delete.new.self in
     let out : s' ≡ deleted_from q.root entry lists = c.delete.ensures q.root w.stands in
-    changes_out c.args.now entry q lists c.requires.fits c.stay_keyed.ensures n h k e d s' out
+    changes_out c.args.now entry q lists c.requires.fits c.stay_keyed.ensures n h s' out
 
 pub returns-then-not-is_set-clause-insertions : goal.returns-then-not-is_set-clause-insertions
 returns-then-not-is_set-clause-insertions g c =
@@ -184,7 +184,7 @@ returns-then-not-is_set-clause-insertions g c =
     let d : is_expired k c.args.now ≡ true = sym c.if-not-is_expired.ensures in
     let s' : KeyedRoots = g.K.KeyedLists.seen c.delete.new.self in
     let out : s' ≡ deleted_from q.root entry lists = c.delete.ensures q.root w.stands in
-    inserts_out c.args.now entry q lists c.requires.fits c.stay_keyed.ensures n h k e d s' out
+    inserts_out c.args.now entry q lists c.requires.fits c.stay_keyed.ensures n h s' out
 
 pub insert-requires-clause-root_exists : goal.insert-requires-clause-root_exists
 insert-requires-clause-root_exists g c =
@@ -206,7 +206,7 @@ insert-requires-clause-root_exists g c =
     let later : is_expired t c.args.now ≡ false = sym c.if-is_expired.ensures in
     let armed : is_set t ≡ true = sym c.if-not-is_set.ensures in
     let same : c.self.inside.root ≡ q.root = ap (λ (x : Timers). x.root) c.self.view_is in
-    let f = fits_out c.args.now entry q lists c.requires.fits c.stay_keyed.ensures n h k e d s' out in
+    let f = fits_out c.args.now entry q lists c.requires.fits c.stay_keyed.ensures n h s' out in
     rw same f.exists
 
 pub insert-requires-clause-entry_exists : goal.insert-requires-clause-entry_exists
@@ -229,7 +229,7 @@ insert-requires-clause-entry_exists g c =
     let later : is_expired t c.args.now ≡ false = sym c.if-is_expired.ensures in
     let armed : is_set t ≡ true = sym c.if-not-is_set.ensures in
     let same : c.self.inside.root ≡ q.root = ap (λ (x : Timers). x.root) c.self.view_is in
-    exists_out c.args.now entry q lists c.requires.fits c.stay_keyed.ensures n h k e d s' out
+    exists_out c.args.now entry q lists c.requires.fits c.stay_keyed.ensures n h s' out
 
 pub insert-requires-clause-free : goal.insert-requires-clause-free
 insert-requires-clause-free g c =
@@ -251,7 +251,7 @@ insert-requires-clause-free g c =
     let later : is_expired t c.args.now ≡ false = sym c.if-is_expired.ensures in
     let armed : is_set t ≡ true = sym c.if-not-is_set.ensures in
     let same : c.self.inside.root ≡ q.root = ap (λ (x : Timers). x.root) c.self.view_is in
-    free_out c.args.now entry q lists c.requires.fits c.stay_keyed.ensures n h k e d s' out
+    free_out c.args.now entry q lists c.requires.fits c.stay_keyed.ensures n h s' out
 
 pub insert-requires-clause-room : goal.insert-requires-clause-room
 insert-requires-clause-room g c =
@@ -273,7 +273,7 @@ insert-requires-clause-room g c =
     let later : is_expired t c.args.now ≡ false = sym c.if-is_expired.ensures in
     let armed : is_set t ≡ true = sym c.if-not-is_set.ensures in
     let same : c.self.inside.root ≡ q.root = ap (λ (x : Timers). x.root) c.self.view_is in
-    let count : insertions_of q s' ≡ insertions_of q lists = count_out c.args.now entry q lists c.requires.fits c.stay_keyed.ensures n h k e d s' out in
+    let count : insertions_of q s' ≡ insertions_of q lists = count_out c.args.now entry q lists c.requires.fits c.stay_keyed.ensures n h s' out in
     let some = ap length (due_old c.args.now entry q lists c.requires.fits c.stay_keyed.ensures n h k e d s' out) in
     let room : insertions_of q s' + 1 < 2 ^ 63 = omega (arith, count, some, c.requires.room) in
     rw same room
@@ -324,7 +324,7 @@ returns-clause-fits g c =
     let same : c.self.inside.root ≡ q.root = ap (λ (x : Timers). x.root) c.self.view_is in
     let s'' : KeyedRoots = g.K.KeyedLists.seen c.insert.new.self in
     let back : s'' ≡ inserted_into q.root entry t s' = rw same at c.insert.ensures in
-    fits_back c.args.now entry q lists c.requires.fits c.stay_keyed.ensures n h k e d s' out t is tick later armed s'' back
+    fits_back c.args.now entry q lists c.requires.fits c.stay_keyed.ensures n h s' out t tick armed s'' back
 
 pub returns-clause-others : goal.returns-clause-others
 returns-clause-others g c =
@@ -348,7 +348,7 @@ returns-clause-others g c =
     let same : c.self.inside.root ≡ q.root = ap (λ (x : Timers). x.root) c.self.view_is in
     let s'' : KeyedRoots = g.K.KeyedLists.seen c.insert.new.self in
     let back : s'' ≡ inserted_into q.root entry t s' = rw same at c.insert.ensures in
-    changes_back c.args.now entry q lists c.requires.fits c.stay_keyed.ensures n h k e d s' out t is tick later armed s'' back
+    changes_back c.args.now entry q lists c.requires.fits c.stay_keyed.ensures n h s' out t tick armed s'' back
 
 pub returns-clause-insertions : goal.returns-clause-insertions
 returns-clause-insertions g c =
@@ -372,4 +372,4 @@ returns-clause-insertions g c =
     let same : c.self.inside.root ≡ q.root = ap (λ (x : Timers). x.root) c.self.view_is in
     let s'' : KeyedRoots = g.K.KeyedLists.seen c.insert.new.self in
     let back : s'' ≡ inserted_into q.root entry t s' = rw same at c.insert.ensures in
-    inserts_back c.args.now entry q lists c.requires.fits c.stay_keyed.ensures n h k e d s' out t is tick later armed s'' back
+    inserts_back c.args.now entry q lists c.requires.fits c.stay_keyed.ensures n h s' out t tick armed s'' back
