@@ -33,7 +33,7 @@ use Rattle.standing.proofs.Whole.{KeepsBetween-passes, goes-passes}
 use Rattle.fronts.specs.Lines.{Track, begins, within, ended, callers_at, stands_at, MayEnter, IsWhole, May, AllMay}
 
 -- the lines of whole rounds from round r on
-abbrev before : ℕ → List Round → List Line
+abbrev pub before : ℕ → List Round → List Line
 before r [] = []
 before r (round ∷ more) = line.Round r round.tick ∷ (map line.Entry round.entries ++ before (r + 1) more)
 
@@ -84,7 +84,7 @@ going-back s T c [] ys h = h
 going-back s T c (x ∷ xs) ys h = going-back s T (called s T c x) xs ys h.1
 
 -- what lines have come to
-abbrev Reached : Script → Track → List Line → Type 0
+abbrev pub Reached : Script → Track → List Line → Type 0
 Reached s begins ls = ls ≡ []
 Reached s (within r T old es) ls =
     (rounds : List Round) × Passes s 0 s.start (opening s) rounds r T old × Going s T (entered s r T old) es × (ls ≡ before 0 rounds ++ (line.Round r T ∷ map line.Entry es))
@@ -112,7 +112,7 @@ draw_call (calls.DropRun i) h = cc
 draw_call (calls.Retire i) h = cc
 
 -- an entry that may come is a next call
-enters-next : (s : Script) (limit : ℕ) (c : Callers) (e : Entry) → Keeps s limit c → MayEnter s c e → IsNext s c e
+pub enters-next : (s : Script) (limit : ℕ) (c : Callers) (e : Entry) → Keeps s limit c → MayEnter s c e → IsNext s c e
 enters-next s limit c e keeps h =
     record {
       caller = h.caller;
@@ -127,7 +127,7 @@ enters-next s limit c e keeps h =
       allowed = h.allowed;
     }
 
-next-enters : (s : Script) (c : Callers) (e : Entry) → IsNext s c e → MayEnter s c e
+pub next-enters : (s : Script) (c : Callers) (e : Entry) → IsNext s c e → MayEnter s c e
 next-enters s c e h =
     record {
       caller = h.caller;
@@ -152,7 +152,7 @@ end_goes : (s : Script) (r : ℕ) (rest b : Bool) (P : Type 0) → MatchBool b (
 end_goes s r rest true P h = (refl, h)
 end_goes s r rest false P h = rw (eq-eqb (r + 1) s.rounds h.0) (refl, h.1)
 
-reached-step : (s : Script) (t : Track) (l : Line) (u : Track) (ls : List Line) → IsTrue (is_sound s) → May s t l u → Reached s t ls → Reached s u (ls ++ l ∷ [])
+pub reached-step : (s : Script) (t : Track) (l : Line) (u : Track) (ls : List Line) → IsTrue (is_sound s) → May s t l u → Reached s t ls → Reached s u (ls ++ l ∷ [])
 reached-step s begins (line.Round number tick) u ls sound h at =
     let here : Reached s (within 0 s.start (opening s) []) (ls ++ line.Round number tick ∷ []) = ([], (refl, refl, refl), tt, rw (at, h.0, h.1) refl) in
     subst (λ (v : Track). Reached s v (ls ++ line.Round number tick ∷ [])) (sym h.2) here
@@ -217,13 +217,13 @@ reached-front s (within r T old es) ls sound at =
     (run, more, x.3, lines)
 reached-front s ended ls sound at = (at.0, [], at.1, at.2 ∙ sym (append-nil ls))
 
-allowed-front : (s : Script) (t : Track) (ls more : List Line) → IsTrue (is_sound s) → AllMay s t more → Reached s t ls → Front s (ls ++ more)
+pub allowed-front : (s : Script) (t : Track) (ls more : List Line) → IsTrue (is_sound s) → AllMay s t more → Reached s t ls → Front s (ls ++ more)
 allowed-front s t ls [] sound h at = rw (append-nil ls) (reached-front s t ls sound at)
 allowed-front s t ls (l ∷ more) sound h at =
     rw (← append_assoc ls (l ∷ []) more) (allowed-front s h.0 (ls ++ l ∷ []) more sound h.2 (reached-step s t l h.0 ls sound h.1 at))
 
 -- the first of lines that are allowed are allowed
-allowed-first : (s : Script) (t : Track) (ls more : List Line) → AllMay s t (ls ++ more) → AllMay s t ls
+pub allowed-first : (s : Script) (t : Track) (ls more : List Line) → AllMay s t (ls ++ more) → AllMay s t ls
 allowed-first s t [] more h = tt
 allowed-first s t (l ∷ ls) more h = (h.0, h.1, allowed-first s h.0 ls more h.2)
 
@@ -297,7 +297,7 @@ goes-allowed s rest r T limit old round (x ∷ more) sound keeps g =
     let st = stands_at s r T old round.entries in
     allowed-entries s r T old [] round.entries (lines_from (r + 1) (x ∷ more) rest) l.going (after_round s rest r T old round.entries (x ∷ more) (is_at_rest s r st) (r + 1 == s.rounds) refl refl l.whole (λ h. goes-allowed s rest (r + 1) (next_tick s r T st) (limit + round_takes s) st x more sound l.keeps h) l.ends)
 
-run-allowed : (s : Script) (rest : Bool) (rounds : List Round) → IsTrue (is_sound s) → Goes s rest 0 s.start (opening s) rounds → AllMay s begins (lines_from 0 rounds rest)
+pub run-allowed : (s : Script) (rest : Bool) (rounds : List Round) → IsTrue (is_sound s) → Goes s rest 0 s.start (opening s) rounds → AllMay s begins (lines_from 0 rounds rest)
 run-allowed s rest [] sound g = absurd g
 run-allowed s rest (round ∷ more) sound g =
     (within 0 s.start (opening s) [], (refl, g.1.tick, refl), goes-allowed s rest 0 s.start 0 (opening s) round more sound (KeepsBetween-opening s) g)

@@ -210,7 +210,7 @@ fn answers_are_told(rt: HostRuntime) -> Result<(), Fail> {
         ),
         (
             "",
-            "taskscript 2\nend\ntaskrun 1\n",
+            "taskscript 3\nend\ntaskrun 1\n",
             7,
             "script: line 1: Header\n",
         ),

@@ -9,7 +9,7 @@ use Rattle.step_tables.specs.declared.tables.Script.{Script}
 use Rattle.text_lines.specs.Numbers.{number, plain_number, signed}
 use Rattle.step_tables.specs.Words.{words_of, is_name, reasons_of, class_of}
 use Rattle.step_tables.specs.Shapes.{word_at, past, word_past, name_at, at_end, init_at, pinned_at, shared_at, tasklet_at, task_place_at, task_end, task_line, tasklet_line, wake_at, kill_at, order_at, orders_at, after_at, never_at, delay_at, closing, row_start, row_line, event_line, setting_line, task_said, tasklet_said, row_said, event_said, end_said, body_line}
-use Rattle.step_tables.specs.Judging.{value, signed_value, no_number, no_signed, named, unknown, place_no_number, place_outside, delay_no_number, delay_outside, kind_of, task_of, number_named, reasons_named, action_of, expiry_of, row_of, event_of, with_setting, with_task, with_row_at_end, with_row, with_event, with_line, judge_tested, judge_said, setting_at, said_in, said_of, judge, long_line, script_from, taken, closed, judged, script_within, script_of}
+use Rattle.step_tables.specs.Judging.{value, signed_value, no_number, no_signed, named, unknown, place_no_number, place_outside, delay_no_number, delay_outside, kind_of, task_of, number_named, reasons_named, action_of, expiry_of, row_of, event_of, with_setting, with_task, with_row_at_end, with_row, with_event, with_line, judge_tested, judge_said, setting_at, said_in, said_of, judge, judge_header, version_of, long_line, script_from, taken, closed, judged, script_within, script_of}
 use Rattle.step_tables.specs.Sound.{is_sound}
 
 -- texts beside their scripts
@@ -19,15 +19,16 @@ read_texts =
     ∷ (codes "taskscript 1\nworkers 1\ndepth 200\nstart 1\nstep 1\nrounds 3\ntask a home 0 nice 0 rows 1 init\nrow a 0 wake a other next 0\nend\n", record { version = 1; workers = 1; depth = 200; start = 1; step = 1; rounds = 3; tasks = record { name = codes "a"; kind = Pinned 0 (pos 0); init = true; rows = record { actions = Wake (record { 0 = 0 }) 64 ∷ []; expiry = Keep; next = 0 } ∷ [] } ∷ []; events = [] })
     ∷ (codes "taskscript 1\nworkers 1\ndepth 200\nstart 1000\nstep 10\nrounds 20\ntask check home 0 nice 0 rows 2 init\ntasklet conn home 0 class urgent rows 1\nrow check 0 wake conn io after 20 next 1\nrow check 1 kill conn kill check next 1\nrow conn 0 next 0\nend\n", record { version = 1; workers = 1; depth = 200; start = 1000; step = 10; rounds = 20; tasks = record { name = codes "check"; kind = Pinned 0 (pos 0); init = true; rows = record { actions = Wake (record { 0 = 1 }) 4 ∷ []; expiry = After 20; next = 1 } ∷ record { actions = Kill (record { 0 = 1 }) ∷ Kill (record { 0 = 0 }) ∷ []; expiry = Keep; next = 1 } ∷ [] } ∷ record { name = codes "conn"; kind = Tasklet 0 Urgent; init = false; rows = record { actions = []; expiry = Keep; next = 0 } ∷ [] } ∷ []; events = [] })
     ∷ (codes "taskscript 1\nworkers 16\ndepth 1000\nstart 0\nstep 1048576\nrounds 100000\ntask next shared nice -1024 rows 1\nrow next 0 wake next init,other kill next next 0\nevent 3 kill next\nevent 3 wake next timer,io,signal,msg,res\nevent 99999 kill next\nend\n", record { version = 1; workers = 16; depth = 1000; start = 0; step = 1048576; rounds = 100000; tasks = record { name = codes "next"; kind = Shared (negsuc 1023); init = false; rows = record { actions = Wake (record { 0 = 0 }) 65 ∷ Kill (record { 0 = 0 }) ∷ []; expiry = Keep; next = 0 } ∷ [] } ∷ []; events = record { round = 3; action = Kill (record { 0 = 0 }) } ∷ record { round = 3; action = Wake (record { 0 = 0 }) 62 } ∷ record { round = 99999; action = Kill (record { 0 = 0 }) } ∷ [] })
+    ∷ (codes "taskscript 2\nworkers 1\ndepth 200\nstart 0\nstep 1\nrounds 2\nend\n", record { version = 2; workers = 1; depth = 200; start = 0; step = 1; rounds = 2; tasks = []; events = [] })
     ∷ (codes "taskscript 1\nworkers 1\ndepth 200\nstart 4294967290\nstep 4\nrounds 10\nend\n", record { version = 1; workers = 1; depth = 200; start = 4294967290; step = 4; rounds = 10; tasks = []; events = [] })
     ∷ []
 
 read_texts-are_read : map (λ e. script_of e.0) read_texts ≡ map (λ e. Ok e.1) read_texts
-unfolding words_of number plain_number signed is_name reasons_of class_of word_at past word_past name_at at_end init_at pinned_at shared_at tasklet_at task_place_at task_end task_line tasklet_line wake_at kill_at order_at orders_at after_at never_at delay_at closing row_start row_line event_line setting_line task_said tasklet_said row_said event_said end_said body_line value signed_value no_number no_signed named unknown place_no_number place_outside delay_no_number delay_outside kind_of task_of number_named reasons_named action_of expiry_of row_of event_of with_setting with_task with_row_at_end with_row with_event with_line judge_tested judge_said setting_at said_in said_of judge long_line script_from taken closed judged script_within script_of is_sound
+unfolding words_of number plain_number signed is_name reasons_of class_of word_at past word_past name_at at_end init_at pinned_at shared_at tasklet_at task_place_at task_end task_line tasklet_line wake_at kill_at order_at orders_at after_at never_at delay_at closing row_start row_line event_line setting_line task_said tasklet_said row_said event_said end_said body_line value signed_value no_number no_signed named unknown place_no_number place_outside delay_no_number delay_outside kind_of task_of number_named reasons_named action_of expiry_of row_of event_of with_setting with_task with_row_at_end with_row with_event with_line judge_tested judge_said setting_at said_in said_of judge judge_header version_of long_line script_from taken closed judged script_within script_of is_sound
 read_texts-are_read = refl
 
-read_texts-are_sound : map (λ e. is_sound e.1) read_texts ≡ true ∷ true ∷ true ∷ true ∷ true ∷ []
-unfolding words_of number plain_number signed is_name reasons_of class_of word_at past word_past name_at at_end init_at pinned_at shared_at tasklet_at task_place_at task_end task_line tasklet_line wake_at kill_at order_at orders_at after_at never_at delay_at closing row_start row_line event_line setting_line task_said tasklet_said row_said event_said end_said body_line value signed_value no_number no_signed named unknown place_no_number place_outside delay_no_number delay_outside kind_of task_of number_named reasons_named action_of expiry_of row_of event_of with_setting with_task with_row_at_end with_row with_event with_line judge_tested judge_said setting_at said_in said_of judge long_line script_from taken closed judged script_within script_of is_sound
+read_texts-are_sound : map (λ e. is_sound e.1) read_texts ≡ true ∷ true ∷ true ∷ true ∷ true ∷ true ∷ []
+unfolding words_of number plain_number signed is_name reasons_of class_of word_at past word_past name_at at_end init_at pinned_at shared_at tasklet_at task_place_at task_end task_line tasklet_line wake_at kill_at order_at orders_at after_at never_at delay_at closing row_start row_line event_line setting_line task_said tasklet_said row_said event_said end_said body_line value signed_value no_number no_signed named unknown place_no_number place_outside delay_no_number delay_outside kind_of task_of number_named reasons_named action_of expiry_of row_of event_of with_setting with_task with_row_at_end with_row with_event with_line judge_tested judge_said setting_at said_in said_of judge judge_header version_of long_line script_from taken closed judged script_within script_of is_sound
 read_texts-are_sound = refl
 
 -- texts beside their faults, as line and kind
@@ -112,7 +113,7 @@ bad_texts =
     ∷ []
 
 bad_texts-are_refused : map (λ e. script_of e.0) bad_texts ≡ map (λ e. Err (record { line = e.1.0; kind = e.1.1 })) bad_texts
-unfolding words_of number plain_number signed is_name reasons_of class_of word_at past word_past name_at at_end init_at pinned_at shared_at tasklet_at task_place_at task_end task_line tasklet_line wake_at kill_at order_at orders_at after_at never_at delay_at closing row_start row_line event_line setting_line task_said tasklet_said row_said event_said end_said body_line value signed_value no_number no_signed named unknown place_no_number place_outside delay_no_number delay_outside kind_of task_of number_named reasons_named action_of expiry_of row_of event_of with_setting with_task with_row_at_end with_row with_event with_line judge_tested judge_said setting_at said_in said_of judge long_line script_from taken closed judged script_within script_of is_sound
+unfolding words_of number plain_number signed is_name reasons_of class_of word_at past word_past name_at at_end init_at pinned_at shared_at tasklet_at task_place_at task_end task_line tasklet_line wake_at kill_at order_at orders_at after_at never_at delay_at closing row_start row_line event_line setting_line task_said tasklet_said row_said event_said end_said body_line value signed_value no_number no_signed named unknown place_no_number place_outside delay_no_number delay_outside kind_of task_of number_named reasons_named action_of expiry_of row_of event_of with_setting with_task with_row_at_end with_row with_event with_line judge_tested judge_said setting_at said_in said_of judge judge_header version_of long_line script_from taken closed judged script_within script_of is_sound
 bad_texts-are_refused = refl
 
 -- a limit, a text past it, and the fault: in the line of the byte behind the limit, unless it stands behind the line `end`
@@ -133,5 +134,5 @@ long_texts =
     ∷ []
 
 long_texts-are_refused : map (λ e. script_within e.0 e.1) long_texts ≡ map (λ e. Err (record { line = e.2.0; kind = e.2.1 })) long_texts
-unfolding words_of number plain_number signed is_name reasons_of class_of word_at past word_past name_at at_end init_at pinned_at shared_at tasklet_at task_place_at task_end task_line tasklet_line wake_at kill_at order_at orders_at after_at never_at delay_at closing row_start row_line event_line setting_line task_said tasklet_said row_said event_said end_said body_line value signed_value no_number no_signed named unknown place_no_number place_outside delay_no_number delay_outside kind_of task_of number_named reasons_named action_of expiry_of row_of event_of with_setting with_task with_row_at_end with_row with_event with_line judge_tested judge_said setting_at said_in said_of judge long_line script_from taken closed judged script_within script_of is_sound
+unfolding words_of number plain_number signed is_name reasons_of class_of word_at past word_past name_at at_end init_at pinned_at shared_at tasklet_at task_place_at task_end task_line tasklet_line wake_at kill_at order_at orders_at after_at never_at delay_at closing row_start row_line event_line setting_line task_said tasklet_said row_said event_said end_said body_line value signed_value no_number no_signed named unknown place_no_number place_outside delay_no_number delay_outside kind_of task_of number_named reasons_named action_of expiry_of row_of event_of with_setting with_task with_row_at_end with_row with_event with_line judge_tested judge_said setting_at said_in said_of judge judge_header version_of long_line script_from taken closed judged script_within script_of is_sound
 long_texts-are_refused = refl

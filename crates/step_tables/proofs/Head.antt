@@ -13,15 +13,15 @@ use Rattle.step_tables.specs.Words.{Word, pieces, words_of}
 use Rattle.step_tables.specs.Shapes.{sets}
 use Rattle.step_tables.specs.Text.{said_words}
 use Rattle.step_tables.specs.Sound.{is_sound}
-use Rattle.step_tables.specs.Judging.{value, no_number, outside, least, most, nothing, with_setting, setting_at, judged, long_line, script_within, script_of, byte_limit}
-use Rattle.step_tables.proofs.Steps.{IsTaken}
+use Rattle.step_tables.specs.Judging.{version_of, value, no_number, outside, least, most, nothing, with_setting, setting_at, judged, long_line, script_within, script_of, byte_limit}
+use Rattle.step_tables.proofs.Steps.{IsTaken, header_is}
 use Rattle.step_tables.proofs.SoundParts.{not_outside}
 use Rattle.step_tables.proofs.Walk.{nil_back, last_back, line_back, next_back, set_line, body_line_of}
 use Rattle.step_tables.proofs.Valid.{Valid, valid_step, valid_end}
 
 -- what is read of the first six lines
-abbrev pub with_settings : ℕ → ℕ → ℕ → ℕ → ℕ → Progress
-with_settings workers depth start step rounds = record { workers = workers; depth = depth; start = start; step = step; rounds = rounds; tasks = []; counts = []; at = 0; events = []; ended = false }
+abbrev pub with_settings : ℕ → ℕ → ℕ → ℕ → ℕ → ℕ → Progress
+with_settings version workers depth start step rounds = record { version = version; workers = workers; depth = depth; start = start; step = step; rounds = rounds; tasks = []; counts = []; at = 0; events = []; ended = false }
 
 -- the line of a setting
 pub record IsSetting (setting : Setting) (line : List ℕ) (word : Word) : Type 0 where
@@ -30,8 +30,11 @@ pub record IsSetting (setting : Setting) (line : List ℕ) (word : Word) : Type 
   pub range : outside (least setting) (most setting) (value word) ≡ false
 
 -- the first line
-header : (long : Option ℕ) (line : List ℕ) (q : Progress) → IsTaken long 1 line nothing q → (line ≡ codes "taskscript 1") × (nothing ≡ q)
-header long line q is = elim is.what [ inl h ↦ (h.text, h.same) | inr h ↦ absurd (let later = h.later in cc) ]
+abbrev pub opened : ℕ → Progress
+opened version = record nothing { version = version }
+
+header : (long : Option ℕ) (line : List ℕ) (q : Progress) → IsTaken long 1 line nothing q → (v : ℕ) × (version_of line ≡ Some v) × (opened v ≡ q)
+header long line q is = elim is.what [ inl h ↦ (h.version, h.says, h.same) | inr h ↦ absurd (let later = h.later in cc) ]
 
 -- the line of a setting, behind some lines
 pub record AfterSetting (long : Option ℕ) (n : ℕ) (setting : Setting) (p : Progress) (lines : List (List ℕ)) (s : Script) : Type 0 where
@@ -59,32 +62,36 @@ after_setting long n setting p lines s at later unended e =
 -- the first six lines, and those behind them
 pub record HeadOf (long : Option ℕ) (lines : List (List ℕ)) (s : Script) : Type 0 where
   pub behind : List (List ℕ)
-  pub first : lines ≡ codes "taskscript 1" ∷ behind
-  pub two : AfterSetting long 2 Workers nothing behind s
-  pub three : AfterSetting long 3 Depth (with_setting nothing Workers (value two.word)) two.rest s
-  pub four : AfterSetting long 4 Start (with_setting (with_setting nothing Workers (value two.word)) Depth (value three.word)) three.rest s
-  pub five : AfterSetting long 5 Step (with_setting (with_setting (with_setting nothing Workers (value two.word)) Depth (value three.word)) Start (value four.word)) four.rest s
-  pub six : AfterSetting long 6 Rounds (with_setting (with_setting (with_setting (with_setting nothing Workers (value two.word)) Depth (value three.word)) Start (value four.word)) Step (value five.word)) five.rest s
+  pub version : ℕ
+  pub line : List ℕ
+  pub says : version_of line ≡ Some version
+  pub first : lines ≡ line ∷ behind
+  pub two : AfterSetting long 2 Workers (opened version) behind s
+  pub three : AfterSetting long 3 Depth (with_setting (opened version) Workers (value two.word)) two.rest s
+  pub four : AfterSetting long 4 Start (with_setting (with_setting (opened version) Workers (value two.word)) Depth (value three.word)) three.rest s
+  pub five : AfterSetting long 5 Step (with_setting (with_setting (with_setting (opened version) Workers (value two.word)) Depth (value three.word)) Start (value four.word)) four.rest s
+  pub six : AfterSetting long 6 Rounds (with_setting (with_setting (with_setting (with_setting (opened version) Workers (value two.word)) Depth (value three.word)) Start (value four.word)) Step (value five.word)) five.rest s
 
 -- what is read of these lines
 abbrev pub head_read : (long : Option ℕ) (lines : List (List ℕ)) (s : Script) → HeadOf long lines s → Progress
-head_read long lines s h = with_settings (value h.two.word) (value h.three.word) (value h.four.word) (value h.five.word) (value h.six.word)
+head_read long lines s h = with_settings h.version (value h.two.word) (value h.three.word) (value h.four.word) (value h.five.word) (value h.six.word)
 
 pub head_of : (long : Option ℕ) (lines : List (List ℕ)) (s : Script) → judged long 1 nothing lines ≡ Ok s → HeadOf long lines s
 unfolding with_setting setting_at
 head_of long lines s e =
     let one = next_back long 1 nothing lines s refl e in
     let start = header long one.line one.one.after one.one.is in
-    let others : judged long 2 nothing one.rest ≡ Ok s = ap (λ q. judged long 2 q one.rest) start.1 ∙ one.one.others in
-    let two : AfterSetting long 2 Workers nothing one.rest s = after_setting long 2 Workers nothing one.rest s refl (λ h. absurd (omega arith)) (refl {a = false}) others in
-    let three : AfterSetting long 3 Depth (with_setting nothing Workers (value two.word)) two.rest s = after_setting long 3 Depth (with_setting nothing Workers (value two.word)) two.rest s refl (λ h. absurd (omega arith)) (refl {a = false}) two.others in
-    let four : AfterSetting long 4 Start (with_setting (with_setting nothing Workers (value two.word)) Depth (value three.word)) three.rest s =
-    after_setting long 4 Start (with_setting (with_setting nothing Workers (value two.word)) Depth (value three.word)) three.rest s refl (λ h. absurd (omega arith)) (refl {a = false}) three.others in
-    let five : AfterSetting long 5 Step (with_setting (with_setting (with_setting nothing Workers (value two.word)) Depth (value three.word)) Start (value four.word)) four.rest s =
-    after_setting long 5 Step (with_setting (with_setting (with_setting nothing Workers (value two.word)) Depth (value three.word)) Start (value four.word)) four.rest s refl (λ h. absurd (omega arith)) (refl {a = false}) four.others in
-    let six : AfterSetting long 6 Rounds (with_setting (with_setting (with_setting (with_setting nothing Workers (value two.word)) Depth (value three.word)) Start (value four.word)) Step (value five.word)) five.rest s =
-    after_setting long 6 Rounds (with_setting (with_setting (with_setting (with_setting nothing Workers (value two.word)) Depth (value three.word)) Start (value four.word)) Step (value five.word)) five.rest s refl (λ h. absurd (omega arith)) (refl {a = false}) five.others in
-    record { behind = one.rest; first = one.cut ∙ ap (λ l. l ∷ one.rest) start.0; two = two; three = three; four = four; five = five; six = six }
+    let version : ℕ = start.0 in
+    let others : judged long 2 (opened version) one.rest ≡ Ok s = ap (λ q. judged long 2 q one.rest) start.2 ∙ one.one.others in
+    let two : AfterSetting long 2 Workers (opened version) one.rest s = after_setting long 2 Workers (opened version) one.rest s refl (λ h. absurd (omega arith)) (refl {a = false}) others in
+    let three : AfterSetting long 3 Depth (with_setting (opened version) Workers (value two.word)) two.rest s = after_setting long 3 Depth (with_setting (opened version) Workers (value two.word)) two.rest s refl (λ h. absurd (omega arith)) (refl {a = false}) two.others in
+    let four : AfterSetting long 4 Start (with_setting (with_setting (opened version) Workers (value two.word)) Depth (value three.word)) three.rest s =
+    after_setting long 4 Start (with_setting (with_setting (opened version) Workers (value two.word)) Depth (value three.word)) three.rest s refl (λ h. absurd (omega arith)) (refl {a = false}) three.others in
+    let five : AfterSetting long 5 Step (with_setting (with_setting (with_setting (opened version) Workers (value two.word)) Depth (value three.word)) Start (value four.word)) four.rest s =
+    after_setting long 5 Step (with_setting (with_setting (with_setting (opened version) Workers (value two.word)) Depth (value three.word)) Start (value four.word)) four.rest s refl (λ h. absurd (omega arith)) (refl {a = false}) four.others in
+    let six : AfterSetting long 6 Rounds (with_setting (with_setting (with_setting (with_setting (opened version) Workers (value two.word)) Depth (value three.word)) Start (value four.word)) Step (value five.word)) five.rest s =
+    after_setting long 6 Rounds (with_setting (with_setting (with_setting (with_setting (opened version) Workers (value two.word)) Depth (value three.word)) Start (value four.word)) Step (value five.word)) five.rest s refl (λ h. absurd (omega arith)) (refl {a = false}) five.others in
+    record { behind = one.rest; version = version; line = one.line; says = start.1; first = one.cut; two = two; three = three; four = four; five = five; six = six }
 
 -- the lines behind the first six
 pub head_others : (long : Option ℕ) (lines : List (List ℕ)) (s : Script) (h : HeadOf long lines s) → judged long 7 (head_read long lines s h) h.six.rest ≡ Ok s
@@ -94,6 +101,7 @@ head_others long lines s h = h.six.others
 -- what is read of the first six lines is valid
 pub valid_head : (long : Option ℕ) (lines : List (List ℕ)) (s : Script) (h : HeadOf long lines s) → Valid (head_read long lines s h)
 valid_head long lines s h = record {
+  version = (header_is h.line h.version h.says).1;
   workers = not_outside 1 16 (value h.two.word) h.two.is.range;
   depth = not_outside 1 1000 (value h.three.word) h.three.is.range;
   start = at_most (value h.four.word) h.four.is.range;

@@ -10,7 +10,7 @@ use Rattle.step_tables.specs.declared.tables.Script.{Script}
 use Rattle.step_tables.specs.declared.progress.Progress.{Progress}
 use Rattle.step_tables.specs.Words.{pieces, is_empty}
 use Rattle.step_tables.specs.Shapes.{Said}
-use Rattle.step_tables.specs.Text.{settings_said, body_said, said_words, line_text, script_text}
+use Rattle.step_tables.specs.Text.{header_of, settings_said, body_said, said_words, line_text, script_text}
 use Rattle.step_tables.specs.Judging.{nothing, judged, long_line, script_within, script_of, byte_limit}
 use Rattle.step_tables.proofs.Walk.{line_back}
 use Rattle.step_tables.proofs.ReadBack.{within_back}
@@ -44,7 +44,7 @@ some_lines_end (x ∷ xs) some = lines_end x xs
 
 text_end : (s : Script) → EndsLine (script_text s)
 unfolding script_text
-text_end s = let more = some_lines_end (settings_said s ++ body_said s.tasks s.events) refl in record { front = codes "taskscript 1" ++ 10 ∷ more.front; is = ap (λ r. codes "taskscript 1" ++ 10 ∷ r) more.is }
+text_end s = let more = some_lines_end (settings_said s ++ body_said s.tasks s.events) refl in record { front = header_of s.version ++ 10 ∷ more.front; is = ap (λ r. header_of s.version ++ 10 ∷ r) more.is ∙ sym (append_assoc (header_of s.version) (10 ∷ more.front) (10 ∷ [])) }
 
 count_end : (xs : List ℕ) → count_by (λ b. b == 10) (xs ++ 10 ∷ []) ≡ count_by (λ b. b == 10) xs + 1
 count_end xs = sum_by-append (λ b. cond (b == 10) 1 0) xs (10 ∷ [])

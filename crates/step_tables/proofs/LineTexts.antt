@@ -11,7 +11,7 @@ use Rattle.step_tables.specs.declared.tables.Event.{Event}
 use Rattle.step_tables.specs.declared.tables.Script.{Script}
 use Rattle.step_tables.specs.Words.{Word}
 use Rattle.step_tables.specs.Shapes.{Said, ends}
-use Rattle.step_tables.specs.Text.{order_words, delay_words, init_words, place_words, task_word, said_words, order_said, delay_said, place_said, task_said, row_said, rows_said, event_said, names_of, settings_said, body_said, spaced, line_text, lines_text, script_text}
+use Rattle.step_tables.specs.Text.{header_of, order_words, delay_words, init_words, place_words, task_word, said_words, order_said, delay_said, place_said, task_said, row_said, rows_said, event_said, names_of, settings_said, body_said, spaced, line_text, lines_text, script_text}
 use Rattle.step_tables.proofs.NameAt.{spaced-append}
 
 -- a line is its first word and the others behind spaces
@@ -152,7 +152,7 @@ lines-flat_map f (x ∷ xs) = lines-append (f x) (flat_map f xs) ∙ ap (λ r. l
 
 -- the parts of a script's text, one behind another
 pub script_parts : (s : Script) → script_text s ≡
-    (codes "taskscript 1" ++ 10 ∷ lines_text (settings_said s))
+    (header_of s.version ++ 10 ∷ lines_text (settings_said s))
     ++ (flat_map (λ t. line_text (said_words (task_said t (length t.rows)))) s.tasks
     ++ (flat_map (λ t. lines_text (rows_said (names_of s.tasks) t.name 0 t.rows)) s.tasks
     ++ (flat_map (λ e. line_text (said_words (event_said (names_of s.tasks) e))) s.events
@@ -164,16 +164,17 @@ script_parts s =
     let rows = flat_map (λ t. rows_said (names_of s.tasks) t.name 0 t.rows) s.tasks in
     let events = map (event_said (names_of s.tasks)) s.events in
     let last : List Said = ends ∷ [] in
-    ap (λ r. codes "taskscript 1" ++ 10 ∷ r)
+    ap (λ r. header_of s.version ++ 10 ∷ r)
     (lines-append (settings_said s) (tasks ++ (rows ++ (events ++ last)))
     ∙ ap (λ r. lines_text (settings_said s) ++ r) (lines-append tasks (rows ++ (events ++ last))
     ∙ (λ i. lines-map (λ t. task_said t (length t.rows)) s.tasks i ++ (lines-append rows (events ++ last)
     ∙ (λ j. lines-flat_map (λ t. rows_said (names_of s.tasks) t.name 0 t.rows) s.tasks j ++ (lines-append events last
     ∙ (λ k. lines-map (event_said (names_of s.tasks)) s.events k ++ lines_text last)) j)) i)))
+    ∙ sym (append_assoc (header_of s.version) (10 ∷ lines_text (settings_said s)) _)
 
 -- the pieces of the text
 pub script_put : (s : Script) (o o1 o2 o3 o4 o5 : List ℕ)
-    → o1 ≡ o ++ (codes "taskscript 1" ++ 10 ∷ lines_text (settings_said s))
+    → o1 ≡ o ++ (header_of s.version ++ 10 ∷ lines_text (settings_said s))
     → o2 ≡ o1 ++ flat_map (λ t. line_text (said_words (task_said t (length t.rows)))) s.tasks
     → o3 ≡ o2 ++ flat_map (λ t. lines_text (rows_said (names_of s.tasks) t.name 0 t.rows)) s.tasks
     → o4 ≡ o3 ++ flat_map (λ e. line_text (said_words (event_said (names_of s.tasks) e))) s.events
@@ -183,7 +184,7 @@ script_put s o o1 o2 o3 o4 o5 h1 h2 h3 h4 h5 =
     let tasks = flat_map (λ t. line_text (said_words (task_said t (length t.rows)))) s.tasks in
     let rows = flat_map (λ t. lines_text (rows_said (names_of s.tasks) t.name 0 t.rows)) s.tasks in
     let events = flat_map (λ e. line_text (said_words (event_said (names_of s.tasks) e))) s.events in
-    then_put o o1 o5 (codes "taskscript 1" ++ 10 ∷ lines_text (settings_said s)) (tasks ++ (rows ++ (events ++ codes "end\n"))) h1
+    then_put o o1 o5 (header_of s.version ++ 10 ∷ lines_text (settings_said s)) (tasks ++ (rows ++ (events ++ codes "end\n"))) h1
     (then_put o1 o2 o5 tasks (rows ++ (events ++ codes "end\n")) h2 (then_put o2 o3 o5 rows (events ++ codes "end\n") h3 (then_put o3 o4 o5 events (codes "end\n") h4 h5)))
     ∙ ap (λ r. o ++ r) (sym (script_parts s))
 

@@ -94,7 +94,7 @@ round_below from rounds (f ∷ events) (suc k) event e at = round_below f.round 
 pub range_of_sound : (s : Script) → is_sound s ≡ true → ScriptRange s
 unfolding is_sound
 range_of_sound s e =
-    let (version, e_1) = split (s.version == 1) _ e in
+    let (version, e_1) = split (within 1 2 s.version) _ e in
     let (workers, e_2) = split (within 1 16 s.workers) _ e_1 in
     let (depth, e_3) = split (within 1 1000 s.depth) _ e_2 in
     let (start, e_4) = split (nat_le s.start 4294967295) _ e_3 in
@@ -106,7 +106,8 @@ range_of_sound s e =
     let (few_events, e_10) = split (nat_le (length s.events) 65536) _ e_9 in
     let (actions, rising) = split (list_all (λ event. is_sound_action (length s.tasks) event.action) s.events) (rising_below 0 s.rounds s.events) e_10 in
     record {
-      version = eqb-true s.version 1 version;
+      some_version = (within_range 1 2 s.version version).0;
+      few_version = (within_range 1 2 s.version version).1;
       some_workers = (within_range 1 16 s.workers workers).0;
       few_workers = (within_range 1 16 s.workers workers).1;
       some_depth = (within_range 1 1000 s.depth depth).0;

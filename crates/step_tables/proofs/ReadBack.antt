@@ -11,11 +11,11 @@ use Rattle.step_tables.specs.declared.shapes.Setting.{Setting}
 use Rattle.step_tables.specs.declared.shapes.Setting.TheVariants.{Workers, Depth, Start, Step, Rounds}
 use Rattle.step_tables.specs.Words.{Word, pieces, is_empty}
 use Rattle.step_tables.specs.Shapes.{TaskLine, RowLine, EventLine, Said, sets, task, row, event, ends}
-use Rattle.step_tables.specs.Text.{row_said, event_said, names_of, settings_said, body_said, said_words, line_text, script_text}
+use Rattle.step_tables.specs.Text.{header_of, row_said, event_said, names_of, settings_said, body_said, said_words, line_text, script_text}
 use Rattle.step_tables.specs.Judging.{may_come, all_rows, due, rows_made, value, task_of, row_of, event_of, with_task, with_row, with_event, with_line, with_row_at_end, script_from, judged, long_line, script_within}
 use Rattle.step_tables.proofs.Back.{IsBody, AreOrders, IsOrder}
 use Rattle.step_tables.proofs.Good.{GoodRow, good_row, GoodEvent, good_event, GoodTask, good_task}
-use Rattle.step_tables.proofs.Steps.{Adds}
+use Rattle.step_tables.proofs.Steps.{Adds, header_is}
 use Rattle.step_tables.proofs.RowsOf.{first_of_both, second_of_both, Fresh, Filled, fresh_from_filled}
 use Rattle.step_tables.proofs.Valid.{Valid, valid_step, map_set, empty_list, test_is, clash, not_true, task_rows, row_name}
 use Rattle.step_tables.proofs.Walk.{IsClosed, nil_back, last_back, line_back, body_line_of}
@@ -113,25 +113,26 @@ bytes_of said = join_with_byte 32 (said_words said)
 
 -- the settings stay as they are behind their lines
 abbrev SameSettings : Progress → Progress → Type 0
-SameSettings p q = (q.workers ≡ p.workers) × (q.depth ≡ p.depth) × (q.start ≡ p.start) × (q.step ≡ p.step) × (q.rounds ≡ p.rounds)
+SameSettings p q = (q.version ≡ p.version) × (q.workers ≡ p.workers) × (q.depth ≡ p.depth) × (q.start ≡ p.start) × (q.step ≡ p.step) × (q.rounds ≡ p.rounds)
 
 settings_kept : (p q : Progress) (said : Said) → IsBody said → with_line p said ≡ q → SameSettings p q
 unfolding with_line with_task with_row with_event
 settings_kept p q (sets setting w) body a = absurd body
-settings_kept p q (task line) body a = subst (SameSettings p) a (refl, refl, refl, refl, refl)
+settings_kept p q (task line) body a = subst (SameSettings p) a (refl, refl, refl, refl, refl, refl)
 settings_kept p q (row line) body a = subst (SameSettings p) a (kept (due p))
   where
     kept : (d : Option TaskDef) → SameSettings p (with_row p d (row_of p.tasks line))
-    kept None = (refl, refl, refl, refl, refl)
-    kept (Some t) = (refl, refl, refl, refl, refl)
-settings_kept p q (event line) body a = subst (SameSettings p) a (refl, refl, refl, refl, refl)
-settings_kept p q ends body a = subst (SameSettings p) a (refl, refl, refl, refl, refl)
+    kept None = (refl, refl, refl, refl, refl, refl)
+    kept (Some t) = (refl, refl, refl, refl, refl, refl)
+settings_kept p q (event line) body a = subst (SameSettings p) a (refl, refl, refl, refl, refl, refl)
+settings_kept p q ends body a = subst (SameSettings p) a (refl, refl, refl, refl, refl, refl)
 
 -- the lines that are left, and what they say
 record LinesLeft (p : Progress) (lines : List (List ℕ)) (s : Script) : Type 0 where
   said : List Said
   cut : lines ≡ map bytes_of said ++ [] ∷ []
   whole : so_far p ++ said ≡ body_said s.tasks s.events
+  version : s.version ≡ p.version
   workers : s.workers ≡ p.workers
   depth : s.depth ≡ p.depth
   start : s.start ≡ p.start
@@ -144,6 +145,7 @@ at_end p piece s v is = record {
   said = [];
   cut = ap (λ x. x ∷ []) is.nothing;
   whole = append-nil (so_far p) ∙ so_far_whole p v is.ended ∙ ap (λ t. body_said t.tasks t.events) is.script;
+  version = ap (λ t. t.version) (sym is.script);
   workers = ap (λ t. t.workers) (sym is.script);
   depth = ap (λ t. t.depth) (sym is.script);
   start = ap (λ t. t.start) (sym is.script);
@@ -162,11 +164,12 @@ lines_left long n p line (next ∷ lines) s behind v e =
       said = body.said ∷ more.said;
       cut = λ i. words_back line (said_words body.said) body.words i ∷ more.cut i;
       whole = sym (append_assoc (so_far p) (body.said ∷ []) more.said) ∙ ap (λ r. r ++ more.said) (sym (said_step p one.after body.said body.body body.unended body.adds v)) ∙ more.whole;
-      workers = more.workers ∙ kept.0;
-      depth = more.depth ∙ kept.1;
-      start = more.start ∙ kept.2;
-      step = more.step ∙ kept.3;
-      rounds = more.rounds ∙ kept.4;
+      version = more.version ∙ kept.0;
+      workers = more.workers ∙ kept.1;
+      depth = more.depth ∙ kept.2;
+      start = more.start ∙ kept.3;
+      step = more.step ∙ kept.4;
+      rounds = more.rounds ∙ kept.5;
     }
 
 -- joined lines
@@ -200,10 +203,10 @@ six_lines lines r1 r2 r3 r4 r5 r6 r7 h a b c d e e1 e2 e3 e4 e5 e6 e7 =
 
 -- the lines of a text that is read
 lines_of_read : (long : Option ℕ) (lines : List (List ℕ)) (s : Script) (h : HeadOf long lines s) (left : LinesLeft (head_read long lines s h) h.six.rest s)
-    → lines ≡ codes "taskscript 1" ∷ (map bytes_of (settings_said s ++ body_said s.tasks s.events) ++ [] ∷ [])
+    → lines ≡ header_of s.version ∷ (map bytes_of (settings_said s ++ body_said s.tasks s.events) ++ [] ∷ [])
 lines_of_read long lines s h left = six_lines lines h.behind h.two.rest h.three.rest h.four.rest h.five.rest h.six.rest (map bytes_of (body_said s.tasks s.events) ++ [] ∷ [])
-    (codes "taskscript 1") (bytes_of (sets Workers (decimal s.workers))) (bytes_of (sets Depth (decimal s.depth))) (bytes_of (sets Start (decimal s.start))) (bytes_of (sets Step (decimal s.step))) (bytes_of (sets Rounds (decimal s.rounds)))
-    h.first
+    (header_of s.version) (bytes_of (sets Workers (decimal s.workers))) (bytes_of (sets Depth (decimal s.depth))) (bytes_of (sets Start (decimal s.start))) (bytes_of (sets Step (decimal s.step))) (bytes_of (sets Rounds (decimal s.rounds)))
+    (h.first ∙ ap (λ l. l ∷ h.behind) ((header_is h.line h.version h.says).0 ∙ ap header_of (sym left.version)))
     (setting_cons Workers h.behind h.two.line h.two.rest h.two.word s.workers h.two.cut h.two.is left.workers)
     (setting_cons Depth h.two.rest h.three.line h.three.rest h.three.word s.depth h.three.cut h.three.is left.depth)
     (setting_cons Start h.three.rest h.four.line h.four.rest h.four.word s.start h.four.cut h.four.is left.start)
@@ -211,9 +214,9 @@ lines_of_read long lines s h left = six_lines lines h.behind h.two.rest h.three.
     (setting_cons Rounds h.five.rest h.six.line h.six.rest h.six.word s.rounds h.six.cut h.six.is left.rounds)
     (left.cut ∙ ap (λ xs. map bytes_of xs ++ [] ∷ []) left.whole)
 
-text_of_lines : (bytes : List ℕ) (s : Script) → pieces 10 bytes ≡ codes "taskscript 1" ∷ (map bytes_of (settings_said s ++ body_said s.tasks s.events) ++ [] ∷ []) → bytes ≡ script_text s
+text_of_lines : (bytes : List ℕ) (s : Script) → pieces 10 bytes ≡ header_of s.version ∷ (map bytes_of (settings_said s ++ body_said s.tasks s.events) ++ [] ∷ []) → bytes ≡ script_text s
 unfolding script_text
-text_of_lines bytes s e = lines_back bytes _ e ∙ ap (λ r. codes "taskscript 1" ++ 10 ∷ r) (join_lines (settings_said s ++ body_said s.tasks s.events))
+text_of_lines bytes s e = lines_back bytes _ e ∙ ap (λ r. header_of s.version ++ 10 ∷ r) (join_lines (settings_said s ++ body_said s.tasks s.events))
 
 -- a text that is read is the text of its script
 pub within_back : (limit : ℕ) (bytes : List ℕ) (s : Script) → script_within limit bytes ≡ Ok s → bytes ≡ script_text s

@@ -1,16 +1,18 @@
 -- Lines that pass are taken one after another.
-use Rattle.std.proofs.Common.{◌≡◌, ℕ, ◌+◌, ◌-◌, ◌^◌, ◌<◌, Bool, true, false, cond, List, [], ◌∷◌, ◌++◌, map, refl, ap, sym, ◌∙◌, arith, subst, append_assoc}
+use Rattle.std.proofs.Common.{◌≡◌, ℕ, ◌+◌, ◌-◌, ◌^◌, ◌<◌, Bool, true, false, cond, List, [], ◌∷◌, ◌++◌, map, refl, ap, sym, ◌∙◌, arith, subst, append_assoc, inl, inr, eqb-true}
 use Rattle.std.specs.Prelude.{Option, Some, None, Ok, Err, codes, ◌||◌, ◌==◌, decimal}
 use Rattle.std.specs.List.{join_with_byte, list_all}
+use Rattle.std.proofs.lemmas.Bool.{cases_Bool}
 use Rattle.std.proofs.lemmas.Bool.Decides.{nat_tests}
+use Rattle.step_tables.specs.Sound.{within}
 use Rattle.step_tables.specs.declared.faults.FaultKind.TheVariants as kinds
 use Rattle.step_tables.specs.declared.progress.Progress.{Progress}
 use Rattle.step_tables.specs.declared.shapes.Setting.{Setting}
 use Rattle.step_tables.specs.declared.shapes.Setting.TheVariants.{Workers, Depth, Start, Step, Rounds}
 use Rattle.step_tables.specs.Words.{Word, ◌>>=◌, pieces, is_empty, words_of}
 use Rattle.step_tables.specs.Shapes.{Said, sets, task, row, event, ends, setting_name}
-use Rattle.step_tables.specs.Text.{said_words, lines_text}
-use Rattle.step_tables.specs.Judging.{first_fault, tests, may_come, outside, least, most, nothing, with_setting, with_line, judge_tested, judge_said, setting_at, said_in, said_of, judge, at_line, taken, closed, go_on, judged, script_from}
+use Rattle.step_tables.specs.Text.{header_of, said_words, lines_text}
+use Rattle.step_tables.specs.Judging.{version_of, judge_header, first_fault, tests, may_come, outside, least, most, nothing, with_setting, with_line, judge_tested, judge_said, setting_at, said_in, said_of, judge, at_line, taken, closed, go_on, judged, script_from}
 use Rattle.step_tables.proofs.Back.{IsBody}
 use Rattle.step_tables.proofs.Steps.{judged_more}
 use Rattle.step_tables.proofs.Walk.{get_past}
@@ -135,9 +137,25 @@ setting_step n setting v p lines later at unended range small some =
     ∙ ap (λ m. judged None (n + 1) (with_setting p setting m) lines) (value_again v small)
 
 -- the first line
-pub header_step : (lines : List (List ℕ)) → is_empty lines ≡ false → judged None 1 nothing (codes "taskscript 1" ∷ lines) ≡ judged None 2 nothing lines
-unfolding taken judge
-header_step lines some = judged_more None 1 nothing (codes "taskscript 1") lines some
+header_again : (version : ℕ) → within 1 2 version ≡ true → version_of (header_of version) ≡ Some version
+unfolding header_of version_of
+header_again version e =
+    elim (cases_Bool (version == 2)) [
+      | inl k ↦ rw k (ap Some (sym (eqb-true version 2 k)))
+      | inr k ↦ rw k (ap Some (one version e k))
+    ]
+  where
+    one : (n : ℕ) → within 1 2 n ≡ true → (n == 2) ≡ false → 1 ≡ n
+    one n e k = grind (arith, nat_tests)
+
+header_taken : (version : ℕ) → within 1 2 version ≡ true → taken None 1 nothing (header_of version) ≡ Ok (record nothing { version = version })
+unfolding taken judge judge_header
+header_taken version e = ap (λ o. at_line 1 (judge_header nothing o)) (header_again version e)
+
+pub header_step : (version : ℕ) → within 1 2 version ≡ true → (lines : List (List ℕ)) → is_empty lines ≡ false → judged None 1 nothing (header_of version ∷ lines) ≡ judged None 2 (record nothing { version = version }) lines
+header_step version e lines some =
+    judged_more None 1 nothing (header_of version) lines some
+    ∙ ap (λ t. go_on t (λ k. judged None 2 k lines)) (header_taken version e)
 
 -- the lines of a text without line feeds in them
 pub cut_lines : (xs : List Said) → list_all (λ x. are_words (said_words x)) xs ≡ true → pieces 10 (lines_text xs) ≡ map bytes_of xs ++ [] ∷ []

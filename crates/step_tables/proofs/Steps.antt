@@ -1,5 +1,5 @@
 -- What is known of a line that was taken.
-use Rattle.std.proofs.Common.{◌≡◌, ℕ, ◌+◌, ◌≤◌, ◌<◌, Bool, true, false, cond, List, [], ◌∷◌, length, refl, arith, inl, inr, ◌⊎◌, subst, length-append}
+use Rattle.std.proofs.Common.{◌≡◌, ℕ, ◌+◌, ◌≤◌, ◌<◌, Bool, true, false, cond, List, [], ◌∷◌, length, refl, arith, inl, inr, ap, ◌⊎◌, subst, length-append}
 use Rattle.std.specs.Prelude.{Option, Some, None, Result, Ok, Err, codes, bytes_eq, ◌==◌, nat_le}
 use Rattle.std.proofs.lemmas.Bool.{eqb-true}
 use Rattle.std.proofs.lemmas.Bool.Decides.{nat_tests}
@@ -9,16 +9,19 @@ use Rattle.step_tables.specs.declared.tables.TaskDef.{TaskDef}
 use Rattle.step_tables.specs.declared.progress.Progress.{Progress}
 use Rattle.step_tables.specs.declared.shapes.Setting.TheVariants.{Workers, Depth, Start, Step, Rounds}
 use Rattle.step_tables.specs.Words.{is_empty}
+use Rattle.step_tables.specs.Text.{header_of}
+use Rattle.step_tables.specs.Sound.{within}
 use Rattle.step_tables.specs.Shapes.{Said, sets, task, row, event, ends}
-use Rattle.step_tables.specs.Judging.{first_fault, tests, may_come, due, with_setting, with_task, with_row, with_event, with_line, row_of, judge_tested, judge_said, said_of, judge, at_line, taken, is_line, go_on, judged}
+use Rattle.step_tables.specs.Judging.{version_of, judge_header, first_fault, tests, may_come, due, with_setting, with_task, with_row, with_event, with_line, row_of, judge_tested, judge_said, said_of, judge, at_line, taken, is_line, go_on, judged}
 use Rattle.step_tables.proofs.Back.{bytes_same}
 use Rattle.step_tables.proofs.Good.{good_task}
 
 -- the first line
 pub record IsHeader (n : ℕ) (line : List ℕ) (p q : Progress) : Type 0 where
   pub first : n ≡ 1
-  pub text : line ≡ codes "taskscript 1"
-  pub same : p ≡ q
+  pub version : ℕ
+  pub says : version_of line ≡ Some version
+  pub same : record p { version = version } ≡ q
 
 -- what a later line says, which may come, has no fault, and is added
 pub record Adds (p : Progress) (said : Said) (q : Progress) : Type 0 where
@@ -64,11 +67,26 @@ said_back p q (Some s) e =
     let (good, added) = tested_back _ _ q tested in
     (s, refl, record { comes = comes; good = good; added = added })
 
+header_back : (p q : Progress) (said : Option ℕ) → judge_header p said ≡ Ok q → (v : ℕ) × (said ≡ Some v) × (record p { version = v } ≡ q)
+unfolding judge_header
+header_back p q None e = absurd (cc)
+header_back p q (Some v) e = (v, refl, cc)
+
+-- what the first line is, by its version
+pub header_is : (line : List ℕ) (v : ℕ) → version_of line ≡ Some v → (line ≡ header_of v) × (within 1 2 v ≡ true)
+unfolding version_of header_of
+header_is line v e = elim (chose (bytes_eq line (codes "taskscript 1")) (Some 1) _ (Some v) e) [
+  | inl h ↦ (let same : 1 ≡ v = cc in subst (λ (n : ℕ). (line ≡ header_of n) × (within 1 2 n ≡ true)) same (bytes_same line (codes "taskscript 1") h.0, refl))
+  | inr h ↦ (let (text, some) = chose_one (bytes_eq line (codes "taskscript 2")) (Some 2) _ (Some v) h.1 (λ k. cc) in
+      let same : 2 ≡ v = cc in
+      subst (λ (n : ℕ). (line ≡ header_of n) × (within 1 2 n ≡ true)) same (bytes_same line (codes "taskscript 2") text, refl))
+]
+
 judge_back : (n : ℕ) (line : List ℕ) (p q : Progress) → judge n p line ≡ Ok q → IsHeader n line p q ⊎ IsSaid n line p q
 unfolding judge
 judge_back n line p q e = elim (chose (n == 1) _ _ _ e) [
-  | inl h ↦ (let (text, same) = chose_one (bytes_eq line (codes "taskscript 1")) _ _ _ h.1 (λ h2. cc) in
-      inl (record { first = eqb-true n 1 h.0; text = bytes_same line (codes "taskscript 1") text; same = cc }))
+  | inl h ↦ (let (version, says, same) = header_back p q (version_of line) h.1 in
+      inl (record { first = eqb-true n 1 h.0; version = version; says = says; same = same }))
   | inr h ↦ (let (s, says, adds) = said_back p q (said_of n line) h.1 in inr (record { later = h.0; said = s; says = says; adds = adds }))
 ]
 

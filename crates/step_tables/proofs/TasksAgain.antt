@@ -25,7 +25,7 @@ use Rattle.step_tables.proofs.RunAgain.{Passes, Runs, no_kind, both_false}
 
 -- what is read so far, of a script's settings and these parts
 abbrev pub base : Script → List TaskDef → List ℕ → ℕ → List Event → Progress
-base s tasks counts at events = record { workers = s.workers; depth = s.depth; start = s.start; step = s.step; rounds = s.rounds; tasks = tasks; counts = counts; at = at; events = events; ended = false }
+base s tasks counts at events = record { version = s.version; workers = s.workers; depth = s.depth; start = s.start; step = s.step; rounds = s.rounds; tasks = tasks; counts = counts; at = at; events = events; ended = false }
 
 -- a task before its rows
 abbrev pub bare : TaskDef → TaskDef

@@ -1,8 +1,8 @@
 -- The text of a script in range is read as that script.
-use Rattle.std.proofs.Common.{◌≡◌, ℕ, suc, ◌+◌, ◌^◌, ◌≤◌, ◌<◌, true, false, cond, List, [], ◌∷◌, ◌++◌, map, length, take, refl, ap, sym, ◌∙◌, arith, subst, append_assoc, append-nil, length-append, lit<}
-use Rattle.std.specs.Prelude.{Some, None, Ok, codes, ◌==◌, nat_lt, nat_le, decimal, count_by, flat_map}
+use Rattle.std.proofs.Common.{◌≡◌, ℕ, suc, ◌+◌, ◌^◌, ◌≤◌, ◌<◌, true, false, cond, List, [], ◌∷◌, ◌++◌, map, length, take, refl, ap, sym, ◌∙◌, arith, subst, append_assoc, append-nil, length-append, lit<, inl, inr}
+use Rattle.std.specs.Prelude.{Some, None, Ok, not, codes, ◌==◌, nat_lt, nat_le, decimal, count_by, flat_map}
 use Rattle.std.specs.List.{list_all}
-use Rattle.std.proofs.lemmas.Bool.{eqb-true}
+use Rattle.std.proofs.lemmas.Bool.{cases_Bool}
 use Rattle.std.proofs.lemmas.Bool.Decides.{nat_tests}
 use Rattle.std.proofs.lemmas.List.Folds.{list_all-append}
 use Rattle.std.proofs.lemmas.List.{take_all}
@@ -14,7 +14,7 @@ use Rattle.step_tables.specs.declared.progress.Progress.{Progress}
 use Rattle.step_tables.specs.declared.shapes.Setting.TheVariants.{Workers, Depth, Start, Step, Rounds}
 use Rattle.step_tables.specs.Words.{pieces, is_empty, is_name}
 use Rattle.step_tables.specs.Shapes.{Said, sets, ends}
-use Rattle.step_tables.specs.Text.{said_words, task_said, rows_said, event_said, names_of, settings_said, body_said, lines_text, script_text}
+use Rattle.step_tables.specs.Text.{header_of, said_words, task_said, rows_said, event_said, names_of, settings_said, body_said, lines_text, script_text}
 use Rattle.step_tables.specs.Sound.{within, is_sound_action, is_sound_task, distinct_names, rising_below, is_sound}
 use Rattle.step_tables.specs.Judging.{value, outside, event_of, with_event, with_line, with_setting, nothing, script_from, setting_at, judged, long_line, script_within, script_of, byte_limit}
 use Rattle.step_tables.proofs.RowsOf.{both, first_of_both, second_of_both}
@@ -96,7 +96,7 @@ names_fine workers n (t ∷ ts) e = both _ _ (first_of_both (is_name t.name) _ (
 
 -- what is known of a script in range
 record InRange (s : Script) : Type 0 where
-  version : s.version ≡ 1
+  version : within 1 2 s.version ≡ true
   workers : within 1 16 s.workers ≡ true
   depth : within 1 1000 s.depth ≡ true
   start : nat_le s.start 4294967295 ≡ true
@@ -112,7 +112,7 @@ record InRange (s : Script) : Type 0 where
 in_range : (s : Script) → is_sound s ≡ true → InRange s
 unfolding is_sound
 in_range s e =
-    let e_1 = second_of_both (s.version == 1) _ e in
+    let e_1 = second_of_both (within 1 2 s.version) _ e in
     let e_2 = second_of_both (within 1 16 s.workers) _ e_1 in
     let e_3 = second_of_both (within 1 1000 s.depth) _ e_2 in
     let e_4 = second_of_both (nat_le s.start 4294967295) _ e_3 in
@@ -123,7 +123,7 @@ in_range s e =
     let e_9 = second_of_both (distinct_names (names_of s.tasks)) _ e_8 in
     let e_10 = second_of_both (nat_le (length s.events) 65536) _ e_9 in
     record {
-      version = eqb-true s.version 1 (first_of_both (s.version == 1) _ e);
+      version = first_of_both (within 1 2 s.version) _ e;
       workers = first_of_both (within 1 16 s.workers) _ e_1;
       depth = first_of_both (within 1 1000 s.depth) _ e_2;
       start = first_of_both (nat_le s.start 4294967295) _ e_3;
@@ -168,9 +168,14 @@ start_inside n e = grind (arith, nat_tests)
 some_lines : (line : List ℕ) (lines : List (List ℕ)) → is_empty (line ∷ lines) ≡ false
 some_lines line lines = refl
 
+-- there is no line feed in the first line
+header_line : (version : ℕ) → list_all (λ b. not (b == 10)) (header_of version) ≡ true
+unfolding header_of
+header_line version = elim (cases_Bool (version == 2)) [ inl k ↦ rw k refl | inr k ↦ rw k refl ]
+
 -- the lines of the settings are read as they were written
 settings_again : (s : Script) (rest : List (List ℕ)) → InRange s → is_empty rest ≡ false
-    → judged None 1 nothing (codes "taskscript 1" ∷ bytes_of (sets Workers (decimal s.workers)) ∷ bytes_of (sets Depth (decimal s.depth)) ∷ bytes_of (sets Start (decimal s.start)) ∷ bytes_of (sets Step (decimal s.step)) ∷ bytes_of (sets Rounds (decimal s.rounds)) ∷ rest)
+    → judged None 1 nothing (header_of s.version ∷ bytes_of (sets Workers (decimal s.workers)) ∷ bytes_of (sets Depth (decimal s.depth)) ∷ bytes_of (sets Start (decimal s.start)) ∷ bytes_of (sets Step (decimal s.step)) ∷ bytes_of (sets Rounds (decimal s.rounds)) ∷ rest)
     ≡ judged None 7 (base s [] [] 0 []) rest
 unfolding with_setting setting_at
 settings_again s rest r some =
@@ -179,12 +184,13 @@ settings_again s rest r some =
     let l4 = bytes_of (sets Start (decimal s.start)) in
     let l5 = bytes_of (sets Step (decimal s.step)) in
     let l6 = bytes_of (sets Rounds (decimal s.rounds)) in
-    let p2 : Progress = record nothing { workers = s.workers } in
+    let p1 : Progress = record nothing { version = s.version } in
+    let p2 : Progress = record p1 { workers = s.workers } in
     let p3 : Progress = record p2 { depth = s.depth } in
     let p4 : Progress = record p3 { start = s.start } in
     let p5 : Progress = record p4 { step = s.step } in
-    header_step (l2 ∷ l3 ∷ l4 ∷ l5 ∷ l6 ∷ rest) refl
-    ∙ setting_step 2 Workers s.workers nothing (l3 ∷ l4 ∷ l5 ∷ l6 ∷ rest) (lit< tt) refl refl (within_outside 1 16 s.workers r.workers) (small_within 16 s.workers (lit< tt) (within_most 1 16 s.workers r.workers)) refl
+    header_step s.version r.version (l2 ∷ l3 ∷ l4 ∷ l5 ∷ l6 ∷ rest) refl
+    ∙ setting_step 2 Workers s.workers p1 (l3 ∷ l4 ∷ l5 ∷ l6 ∷ rest) (lit< tt) refl refl (within_outside 1 16 s.workers r.workers) (small_within 16 s.workers (lit< tt) (within_most 1 16 s.workers r.workers)) refl
     ∙ setting_step 3 Depth s.depth p2 (l4 ∷ l5 ∷ l6 ∷ rest) (lit< tt) refl refl (within_outside 1 1000 s.depth r.depth) (small_within 1000 s.depth (lit< tt) (within_most 1 1000 s.depth r.depth)) refl
     ∙ setting_step 4 Start s.start p3 (l5 ∷ l6 ∷ rest) (lit< tt) refl refl (start_inside s.start r.start) (small_within 4294967295 s.start (lit< tt) (test_at_most s.start 4294967295 r.start)) refl
     ∙ setting_step 5 Step s.step p4 (l6 ∷ rest) (lit< tt) refl refl (within_outside 1 1048576 s.step r.step) (small_within 1048576 s.step (lit< tt) (within_most 1 1048576 s.step r.step)) refl
@@ -199,11 +205,11 @@ settings_are_words s r =
     (both (are_words (said_words (sets Rounds (decimal s.rounds)))) true (setting_words Rounds s.rounds (small_within 100000 s.rounds (lit< tt) (within_most 1 100000 s.rounds r.rounds))) refl))))
 
 -- the lines of a script's text
-text_lines : (s : Script) → InRange s → pieces 10 (script_text s) ≡ codes "taskscript 1" ∷ (map bytes_of (settings_said s ++ body_said s.tasks s.events) ++ [] ∷ [])
+text_lines : (s : Script) → InRange s → pieces 10 (script_text s) ≡ header_of s.version ∷ (map bytes_of (settings_said s ++ body_said s.tasks s.events) ++ [] ∷ [])
 unfolding script_text
 text_lines s r =
-    first_piece 10 (codes "taskscript 1") (lines_text (settings_said s ++ body_said s.tasks s.events)) refl
-    ∙ ap (λ ls. codes "taskscript 1" ∷ ls) (cut_lines (settings_said s ++ body_said s.tasks s.events)
+    first_piece 10 (header_of s.version) (lines_text (settings_said s ++ body_said s.tasks s.events)) (header_line s.version)
+    ∙ ap (λ ls. header_of s.version ∷ ls) (cut_lines (settings_said s ++ body_said s.tasks s.events)
     (list_all-append (λ x. are_words (said_words x)) (settings_said s) (body_said s.tasks s.events)
     ∙ both _ _ (settings_are_words s r) (runs_words (base s [] [] 0 []) (record (with_events s s.events) { ended = true }) (body_said s.tasks s.events) (body_run s r))))
 
@@ -213,7 +219,6 @@ judged_again s r =
     ap (judged None 1 nothing) (text_lines s r)
     ∙ settings_again s (map bytes_of (body_said s.tasks s.events) ++ [] ∷ []) r (lines_some (body_said s.tasks s.events))
     ∙ run_lines 7 (base s [] [] 0 []) (record (with_events s s.events) { ended = true }) (body_said s.tasks s.events) (lit< tt) (body_run s r) refl
-    ∙ ap (λ (n : ℕ). let x : Script = record s { version = n } in Ok x) (sym r.version)
 
 -- the text of a script in range is read as that script
 pub text_again : (s : Script) → is_sound s ≡ true → length (script_text s) ≤ byte_limit → script_of (script_text s) ≡ Ok s

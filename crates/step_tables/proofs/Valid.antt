@@ -22,6 +22,7 @@ use Rattle.step_tables.proofs.RowsOf.{both, first_of_both, second_of_both, Fresh
 use Rattle.step_tables.proofs.SoundParts.{sound_row, sound_task, sound_event}
 
 pub record Valid (p : Progress) : Type 0 where
+  pub version : within 1 2 p.version ≡ true
   pub workers : within 1 16 p.workers ≡ true
   pub depth : within 1 1000 p.depth ≡ true
   pub start : nat_le p.start 4294967295 ≡ true
@@ -153,6 +154,7 @@ valid_task p line name unended comes good v =
     (subst (λ k. Filled p.workers (length p.tasks) k p.tasks p.counts) at_start v.tables) (ap (λ k. rows_made (slice_get p.tasks k)) (sym at_start) ∙ none_made) in
     let long : length (p.tasks ++ task_of line ∷ []) ≡ length p.tasks + 1 = length-append p.tasks (task_of line ∷ []) in
     record {
+      version = v.version;
       workers = v.workers;
       depth = v.depth;
       start = v.start;
@@ -175,6 +177,7 @@ valid_row p line are unended comes good v = subst (λ d. Valid (with_row p d (ro
     let new = with_row_at_end good.task (row_of p.tasks line) in
     let long : length (set p.tasks p.at new) ≡ length p.tasks = length-set p.tasks p.at new in
     record {
+      version = v.version;
       workers = v.workers;
       depth = v.depth;
       start = v.start;
@@ -200,6 +203,7 @@ valid_event p line is unended comes good v =
     let long : length (p.events ++ event_of p.tasks line ∷ []) ≡ length p.events + 1 = length-append p.events (event_of p.tasks line ∷ []) in
     let rising : last_from 0 p.events ≤ value line.round = subst (λ n. n ≤ value line.round) (last_is 0 p.events) good.rising in
     record {
+      version = v.version;
       workers = v.workers;
       depth = v.depth;
       start = v.start;
@@ -223,6 +227,7 @@ valid_step p q (task line) body unended a v = subst Valid a.added (valid_task p 
 valid_step p q (row line) body unended a v = subst Valid a.added (valid_row p line body.1 unended a.comes (good_row p line a.good) v)
 valid_step p q (event line) body unended a v = subst Valid a.added (valid_event p line body unended a.comes (good_event p line a.good) v)
 valid_step p q ends body unended a v = subst Valid a.added (record {
+  version = v.version;
   workers = v.workers;
   depth = v.depth;
   start = v.start;
@@ -242,6 +247,6 @@ valid_step p q ends body unended a v = subst Valid a.added (record {
 pub valid_end : (p : Progress) → Valid p → p.ended ≡ true → is_sound (script_from p) ≡ true
 unfolding is_sound script_from
 valid_end p v ended =
-    both _ _ refl (both _ _ v.workers (both _ _ v.depth (both _ _ v.start (both _ _ v.step (both _ _ v.rounds (both _ _ v.few
+    both _ _ v.version (both _ _ v.workers (both _ _ v.depth (both _ _ v.start (both _ _ v.step (both _ _ v.rounds (both _ _ v.few
     (both _ _ (all_filled p.workers (length p.tasks) p.at p.tasks p.counts v.tables (v.done ended))
     (both _ _ v.names (both _ _ v.few_events (both _ _ v.actions v.rising))))))))))

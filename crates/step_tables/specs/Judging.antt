@@ -24,7 +24,7 @@ use Rattle.step_tables.specs.Shapes.{Order, Delay, Place, TaskLine, RowLine, Eve
 
 -- nothing is read so far
 abbrev pub nothing : Progress
-nothing = record { workers = 0; depth = 0; start = 0; step = 0; rounds = 0; tasks = []; counts = []; at = 0; events = []; ended = false }
+nothing = record { version = 0; workers = 0; depth = 0; start = 0; step = 0; rounds = 0; tasks = []; counts = []; at = 0; events = []; ended = false }
 
 -- the number of a word, where it writes one
 unfoldable pub value : Word → ℕ
@@ -297,10 +297,19 @@ said_in (Some setting) ws = setting_line setting ws
 unfoldable pub said_of : ℕ → List ℕ → Option Said
 said_of n line = words_of line >>= said_in (setting_at n)
 
+-- the version that the first line says
+unfoldable pub version_of : List ℕ → Option ℕ
+version_of line = if line is "taskscript 1" then Some 1 else (if line is "taskscript 2" then Some 2 else None)
+
+-- the first line, which says this version
+unfoldable pub judge_header : Progress → Option ℕ → Result Progress FaultKind
+judge_header p None = Err kinds.Header
+judge_header p (Some version) = Ok (record p { version = version })
+
 -- a complete line: the kind of its fault, or what is read with it
 unfoldable pub judge : ℕ → Progress → List ℕ → Result Progress FaultKind
 judge n p line = if n == 1
-    then (if line is "taskscript 1" then Ok p else Err kinds.Header)
+    then judge_header p (version_of line)
     else judge_said p (said_of n line)
 
 -- the most bytes that a script may have
@@ -322,7 +331,7 @@ fault line kind = record { line = line; kind = number_of_kind kind }
 
 -- the script that is read
 unfoldable pub script_from : Progress → Script
-script_from p = record { version = 1; workers = p.workers; depth = p.depth; start = p.start; step = p.step; rounds = p.rounds; tasks = p.tasks; events = p.events }
+script_from p = record { version = p.version; workers = p.workers; depth = p.depth; start = p.start; step = p.step; rounds = p.rounds; tasks = p.tasks; events = p.events }
 
 -- the verdict on a line, with the line's number
 abbrev pub at_line : ℕ → Result Progress FaultKind → Result Progress ScriptFault

@@ -54,7 +54,8 @@ pub record EventRange (tasks rounds : ℕ) (event : Event) : Type 0 where
 
 -- the tables of a script
 pub record ScriptRange (s : Script) : Type 0 where
-  pub version : s.version ≡ 1
+  pub some_version : 1 ≤ s.version
+  pub few_version : s.version ≤ 2
   pub some_workers : 1 ≤ s.workers
   pub few_workers : s.workers ≤ 16
   pub some_depth : 1 ≤ s.depth

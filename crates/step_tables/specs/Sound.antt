@@ -63,6 +63,6 @@ rising_below from rounds (event ∷ events) = nat_le from event.round && (nat_lt
 -- whether these are the tables of a script
 unfoldable pub is_sound : Tables → Bool
 is_sound s =
-    s.version == 1 && (within 1 16 s.workers && (within 1 1000 s.depth && (nat_le s.start 4294967295 && (within 1 1048576 s.step && (within 1 100000 s.rounds
+    within 1 2 s.version && (within 1 16 s.workers && (within 1 1000 s.depth && (nat_le s.start 4294967295 && (within 1 1048576 s.step && (within 1 100000 s.rounds
     && (nat_le (length s.tasks) 4096 && (list_all (is_sound_task s.workers (length s.tasks)) s.tasks && (distinct_names (map (λ task. task.name) s.tasks)
     && (nat_le (length s.events) 65536 && (list_all (λ event. is_sound_action (length s.tasks) event.action) s.events && rising_below 0 s.rounds s.events))))))))))

@@ -1,5 +1,5 @@
 -- The words that say what a line says, and the text of a script: docs/SCRIPT.md, "Lines" and "Text".
-use Rattle.std.specs.Prelude.{ℕ, ◌+◌, Bool, true, false, List, [], ◌∷◌, ◌++◌, map, length, codes, flat_map, decimal, slice_index_or}
+use Rattle.std.specs.Prelude.{ℕ, ◌+◌, Bool, true, false, List, [], ◌∷◌, ◌++◌, map, length, codes, flat_map, decimal, slice_index_or, ◌==◌, if◌then◌else◌}
 use Rattle.std.specs.List.{join_with_byte}
 use Rattle.std.specs.Fmt.{signed_decimal}
 use Rattle.sched_base.specs.declared.names.Class.{Class}
@@ -125,6 +125,10 @@ line_text ws = join_with_byte 32 ws ++ 10 ∷ []
 abbrev pub lines_text : List Said → List ℕ
 lines_text lines = flat_map (λ said. line_text (said_words said)) lines
 
+-- the first line of a script of this version
+unfoldable pub header_of : ℕ → List ℕ
+header_of version = if version == 2 then codes "taskscript 2" else codes "taskscript 1"
+
 -- the text of a script: the one that is read as this script
 unfoldable pub script_text : Script → List ℕ
-script_text s = codes "taskscript 1" ++ 10 ∷ lines_text (settings_said s ++ body_said s.tasks s.events)
+script_text s = header_of s.version ++ 10 ∷ lines_text (settings_said s ++ body_said s.tasks s.events)

@@ -67,6 +67,7 @@ impl Progress {
         ensures { result ≡ nothing }
     {
         Progress {
+            version: 0,
             workers: 0,
             depth: 0,
             start: 0,

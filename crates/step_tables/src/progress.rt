@@ -27,6 +27,8 @@ impl From<AllocError> for Refusal {
 /// The settings, tasks and events of the lines that were read.
 #[derive(Debug, Drop)]
 pub(crate) struct Progress {
+    /// The version that the first line says.
+    pub version: u32,
     pub workers: u32,
     pub depth: u32,
     pub start: u32,

@@ -4,7 +4,7 @@ ghost use Rattle.std.specs.Prelude.{◌≡◌, ℕ, ◌<◌, ◌≤◌, ◌+◌,
 ghost use Rattle.step_tables.specs.declared.faults.ScriptError.TheVariants.{Refused};
 ghost use Rattle.step_tables.specs.Words.{words_of};
 ghost use Rattle.step_tables.specs.Shapes.{setting_line, body_line};
-ghost use Rattle.step_tables.specs.Judging.{judge_said, setting_at, said_in, said_of, judge, long_line, is_line, taken, closed, fault, script_within, script_of};
+ghost use Rattle.step_tables.specs.Judging.{judge_said, setting_at, said_in, said_of, judge, judge_header, version_of, long_line, is_line, taken, closed, fault, script_within, script_of};
 ghost use Rattle.step_tables.specs.Sound.{is_sound};
 ghost use Rattle.step_tables.specs.Views.{said_view, Judges, Takes, Gives, words_in};
 
@@ -78,6 +78,21 @@ impl Progress {
         }
     }
 
+    /// Judges the first line, and keeps its version.
+    #[tactic(auto, unfolding(crate::specs::Judging::judge_header, crate::specs::Judging::version_of))]
+    fn take_header(&mut self, line: &[u8]) -> Result<(), Refusal>
+        ensures { Judges result self.new (judge_header self.old (version_of line.now)) }
+    {
+        self.version = if line == b"taskscript 1".as_slice() {
+            1
+        } else if line == b"taskscript 2".as_slice() {
+            2
+        } else {
+            return Err(Refusal::Kind(FaultKind::Header));
+        };
+        Ok(())
+    }
+
     /// Judges a complete line, and adds it where it has no fault.
     #[tactic(auto, unfolding(crate::specs::Judging::judge, crate::specs::Judging::judge_said))]
     fn judge(&mut self, alloc: Global, number: u32, line: &[u8]) -> Result<(), Refusal>
@@ -86,11 +101,7 @@ impl Progress {
         ensures { Judges result self.new (judge number self.old line.now) }
     {
         if number == 1 {
-            return if line == b"taskscript 1".as_slice() {
-                Ok(())
-            } else {
-                Err(Refusal::Kind(FaultKind::Header))
-            };
+            return self.take_header(line);
         }
         match said_of(alloc, number, line)? {
             None => Err(Refusal::Kind(FaultKind::Word)),
@@ -144,7 +155,7 @@ impl Progress {
             return refuse(number, FaultKind::Word);
         }
         Ok(Script {
-            version: 1,
+            version: self.version,
             workers: self.workers,
             depth: self.depth,
             start: self.start,

@@ -71,7 +71,7 @@ pub struct Event {
 /// Contracts see its tables, which are in range.
 #[derive(Debug, Drop)]
 pub struct Script {
-    /// The version of the format, which is 1.
+    /// The version of the format: 1 or 2.
     pub(crate) version: u32,
     /// 1 to 16.
     pub(crate) workers: u32,
@@ -136,7 +136,7 @@ impl Script {
         }
     }
 
-    /// The version of the format that it is written in, which is 1.
+    /// The version of the format that it is written in: 1 or 2.
     pub fn version(&self) -> u32
         ensures same { result ≡ self.now.version }
         ensures sound { IsTrue (is_sound self.now) }

@@ -41,7 +41,7 @@ const LONG_FRONT: &str = "taskscript 1\nworkers 16\ndepth 1000\nstart 4294967290
 const EVENT: &str = "event 0 wake aaaaaaaaaaaaaaa init,timer,io,signal,msg,res,other\n";
 
 /// Begins and ends of texts, with what each whole text is.
-const TEXTS: [(&str, &str, Verdict); 82] = [
+const TEXTS: [(&str, &str, Verdict); 84] = [
     // Scripts.
     (ROWS, "end\n", Reads(1, 0)),
     (
@@ -91,8 +91,14 @@ const TEXTS: [(&str, &str, Verdict); 82] = [
         "task a home 0 nice 0 rows 1 init\nrow a 0 wake a other next 0\nend\n",
         Reads(1, 0),
     ),
+    (
+        "taskscript 2\nworkers 1\ndepth 200\nstart 0\nstep 1\nrounds 5\n",
+        "task a home 0 nice 0 rows 1 init\nrow a 0 kill a next 0\nend\n",
+        Reads(1, 0),
+    ),
     // Another header.
     ("", "taskscript 9\nworkers 1\n", Fault(1, 1)),
+    ("", "taskscript 3\nworkers 1\n", Fault(1, 1)),
     ("", "taskscript 01\nworkers x\n", Fault(1, 1)),
     ("", "taskscript 1 \n", Fault(1, 1)),
     ("", "\n", Fault(1, 1)),

@@ -2,7 +2,7 @@
 
 ghost use Rattle.std.specs.Prelude.{◌≡◌, ℕ, ◌++◌, ◌∷◌, [], map, flat_map, length, codes, decimal, OnOk, OnErr, if◌then◌else◌};
 ghost use Rattle.std.specs.Fmt.{signed_decimal};
-ghost use Rattle.step_tables.specs.Text.{class_name, order_words, delay_words, init_words, place_words, task_word, said_words, reasons_text, name_at, order_said, delay_said, place_said, task_said, row_said, rows_said, event_said, names_of, settings_said, body_said, spaced, line_text, lines_text, script_text};
+ghost use Rattle.step_tables.specs.Text.{class_name, order_words, delay_words, init_words, place_words, task_word, said_words, reasons_text, name_at, order_said, delay_said, place_said, task_said, row_said, rows_said, event_said, names_of, settings_said, body_said, spaced, line_text, lines_text, script_text, header_of};
 ghost use Rattle.step_tables.specs.Shapes.{setting_name, sets};
 
 use crate::shapes::{Setting, setting_name};
@@ -262,11 +262,23 @@ fn put_events(out: &mut Vec<u8>, tasks: &[TaskDef], events: &[Event]) -> Result<
     Ok(())
 }
 
+/// Appends the first line.
+#[tactic(auto, unfolding(crate::specs::Text::header_of))]
+fn put_header(out: &mut Vec<u8>, script: &Script) -> Result<(), AllocError>
+    ensures { OnOk result (out.new.items ≡ out.old.items ++ (header_of script.now.version ++ 10 ∷ [])) }
+{
+    if script.version() == 2 {
+        put(out, b"taskscript 2\n")
+    } else {
+        put(out, b"taskscript 1\n")
+    }
+}
+
 /// Appends the lines of the settings, behind the first line.
 fn put_head(out: &mut Vec<u8>, script: &Script) -> Result<(), AllocError>
-    ensures { OnOk result (out.new.items ≡ out.old.items ++ (codes "taskscript 1" ++ 10 ∷ lines_text (settings_said script.now))) }
+    ensures { OnOk result (out.new.items ≡ out.old.items ++ (header_of script.now.version ++ 10 ∷ lines_text (settings_said script.now))) }
 {
-    put(out, b"taskscript 1\n")?;
+    put_header(out, script)?;
     put_setting(out, Setting::Workers, script.workers())?;
     put_setting(out, Setting::Depth, script.depth())?;
     put_setting(out, Setting::Start, script.start())?;
