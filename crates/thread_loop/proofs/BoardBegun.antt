@@ -26,7 +26,7 @@ use Rattle.standing.proofs.Homes.{homed-gets}
 use Rattle.wake_board.specs.Seen.{Held, Laid, IsPassOf}
 use Rattle.wake_board.specs.Ends.{own_by}
 use Rattle.thread_loop.specs.Workers.{number_of, tick_of, takes_of, book_at_tick, stage_of, Fits}
-use Rattle.thread_loop.specs.Shops.{calls_in}
+use Rattle.thread_loop.specs.Workers.{calls_in}
 use Rattle.thread_loop.specs.Boards.{log_of, turn_room, IsBoardOf, HasListed, KeepsTakes, FewKnown, IsOwn, IsMissed, HasServed, HasGrown}
 use Rattle.thread_loop.specs.BoardTurns as by
 use Rattle.thread_loop.specs.BoardTurns.{AtStage, OnBoard, HasCalled}

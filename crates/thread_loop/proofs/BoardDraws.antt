@@ -31,7 +31,7 @@ use Rattle.wake_board.specs.Bodies.{with_outs, MayTake, IsOutWith}
 use Rattle.wake_board.proofs.Grown.{own-called}
 use Rattle.wake_board.proofs.Tables.{at_front}
 use Rattle.thread_loop.specs.Workers.{number_of, tick_of, turns_of, takes_of, stage_of, Fits, takes_after}
-use Rattle.thread_loop.specs.Shops.{calls_in}
+use Rattle.thread_loop.specs.Workers.{calls_in}
 use Rattle.thread_loop.specs.Boards.{log_of, IsSame, IsMissed, draws_in}
 use Rattle.thread_loop.specs.BoardTurns.{OnBoard, HasCalled, IsDrawn, at_home}
 use Rattle.shared_queue.specs.Drawing.{Draws, FindsNone}

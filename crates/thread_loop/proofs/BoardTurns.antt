@@ -36,7 +36,7 @@ use Rattle.wake_board.proofs.Grown.{takes-called}
 use Rattle.wake_board.proofs.Known.{gone-led}
 use Rattle.thread_loop.specs.Turns.{NamesTasks}
 use Rattle.thread_loop.specs.Workers.{number_of, tick_of, turns_of, takes_of, book_at_tick, stage_of, Fits, TellsTakes, takes_after}
-use Rattle.thread_loop.specs.Shops.{calls_in, Heard}
+use Rattle.thread_loop.specs.Workers.{calls_in, Heard}
 use Rattle.thread_loop.specs.Boards.{log_of, IsSame, HasGrown, IsMissed}
 use Rattle.thread_loop.specs.BoardTurns.{AtStage, OnBoard, HasCalled}
 use Rattle.thread_loop.specs.Calls.{MayMake, Brings, IsMade}

@@ -7,7 +7,7 @@ use Rattle.run_model.specs.Book.{Book}
 use Rattle.run_model.specs.Turn.{Turn}
 use Rattle.wake_board.specs.Seen.{Held, Laid}
 use Rattle.thread_loop.specs.Boards.{HasListed, IsOwn}
-use Rattle.thread_loop.specs.Engines.{book_now}
+use Rattle.thread_loop.specs.Idle.{book_now}
 use Rattle.thread_loop.specs.Plants.{HasTurned, AllCanTurn, AllTurned}
 use Rattle.thread_loop.specs.Workers.{number_of, tick_of, book_at_tick}
 use Rattle.thread_loop.specs.declared.worker.Worker.{Worker}

@@ -14,7 +14,6 @@ use Rattle.task_machine.specs.declared.calls.Entry.{Entry}
 use Rattle.task_machine.specs.Task.{is_boxed}
 use Rattle.task_machine.specs.Step.{State, task_at}
 use Rattle.task_machine.specs.History.{calls_of, IsMerge, led}
-use Rattle.run_model.specs.Versions.{is_second}
 use Rattle.run_model.specs.Book.{Book}
 use Rattle.run_model.specs.Lawful.{Injects, RoundOf, Turns}
 use Rattle.run_model.specs.Standing.{Standing, book_at, blank_book, turn_ended, was_drawn, draws_of, is_draw_of, is_served}
@@ -23,7 +22,6 @@ use Rattle.turn_steps.specs.Has.{caller}
 use Rattle.standing.proofs.Merge.{own_calls, other_calls}
 use Rattle.standing.proofs.Served.{served-by}
 use Rattle.wake_board.specs.Rule.{IsDraw, HasDraw}
-use Rattle.thread_loop.proofs.Rounds.{ended_first}
 
 -- entries of callers up to w
 pub callers-none : (w : ℕ) (es : List Entry) → ((k : ℕ) → w < k → calls_of k es ≡ []) → list_all (λ e. nat_le e.caller.0 w) es ≡ true
@@ -37,16 +35,20 @@ callers-none w (e ∷ es) h =
     cons_nil : (x : Entry) (xs : List Entry) → x ∷ xs ≡ [] → ⊥
     cons_nil x xs e = cc
 
+-- a turn that leads to a book, which is then settled
+abbrev pub Ends : Script → ℕ → ℕ → Book → List Entry → Book → Type 0
+Ends s T k b es c = (m : Book) × Turn s (caller k) T b es m × (c ≡ turn_ended s T m)
+
 -- the turns of workers from k on
-pub turns-all : (s : Script) (T : ℕ) (es : List Entry) (k : ℕ) (bs cs : List Book) (d : Book) → is_second s ≡ false → length cs ≡ length bs → ((i : ℕ) → i < length bs → Turn s (caller (k + i)) T (get_or bs i d) (calls_of (k + i) es) (get_or cs i d)) → Turns s T es k bs cs
-turns-all s T es k [] [] d first n h = tt
-turns-all s T es k [] (c ∷ cs) d first n h = absurd (omega arith)
-turns-all s T es k (b ∷ bs) [] d first n h = absurd (omega arith)
-turns-all s T es k (b ∷ bs) (c ∷ cs) d first n h =
+pub turns-all : (s : Script) (T : ℕ) (es : List Entry) (k : ℕ) (bs cs : List Book) (d : Book) → length cs ≡ length bs → ((i : ℕ) → i < length bs → Ends s T (k + i) (get_or bs i d) (calls_of (k + i) es) (get_or cs i d)) → Turns s T es k bs cs
+turns-all s T es k [] [] d n h = tt
+turns-all s T es k [] (c ∷ cs) d n h = absurd (omega arith)
+turns-all s T es k (b ∷ bs) [] d n h = absurd (omega arith)
+turns-all s T es k (b ∷ bs) (c ∷ cs) d n h =
     let here : k + 0 ≡ k = omega arith in
-    let turn : Turn s (caller k) T b (calls_of k es) c = subst (λ (v : ℕ). Turn s (caller v) T b (calls_of v es) c) here (h 0 (omega arith)) in (
-      record { first = calls_of k es; second = []; between = c; joined = sym (append-nil (calls_of k es)); front = turn; back = (refl, sym (ended_first s T c first)) },
-      turns-all s T es (k + 1) bs cs d first (omega arith) (λ i lt. let next : k + suc i ≡ k + 1 + i = omega arith in subst (λ (v : ℕ). Turn s (caller v) T (get_or bs i d) (calls_of v es) (get_or cs i d)) next (h (suc i) (omega arith))),
+    let turn : Ends s T k b (calls_of k es) c = subst (λ (v : ℕ). Ends s T v b (calls_of v es) c) here (h 0 (omega arith)) in (
+      record { first = calls_of k es; second = []; between = turn.0; joined = sym (append-nil (calls_of k es)); front = turn.1; back = (refl, turn.2) },
+      turns-all s T es (k + 1) bs cs d (omega arith) (λ i lt. let next : k + suc i ≡ k + 1 + i = omega arith in subst (λ (v : ℕ). Ends s T v (get_or bs i d) (calls_of v es) (get_or cs i d)) next (h (suc i) (omega arith))),
     )
 
 -- a draw that stands in a list was made
@@ -89,15 +91,15 @@ boxed-is b places.Gone h = cc
 
 -- a legal merge of the calls of all callers is a lawful round, where each worker's are a lawful turn, the injector's its
 -- part, and the shared box was served
-pub merged-round : (s : Script) (r T : ℕ) (old : Standing) (logs : ℕ → List Entry) (es : List Entry) (state : State) (books : List Book) → is_second s ≡ false → length old.books ≡ s.workers → length books ≡ s.workers → IsMerge old.state logs es → ((k : ℕ) → s.workers < k → logs k ≡ []) → ((k : ℕ) → k < s.workers → Turn s (caller k) T (book_at old k) (logs k) (get_or books k (blank_book 0))) → Injects s r (logs s.workers) → is_served s old.state es ≡ true → state ≡ led old.state es → RoundOf s r T old (record { tick = T; entries = es }) (record { state = state; books = books })
-merged-round s r T old logs es state books first before after merge none turns injects served leads =
+pub merged-round : (s : Script) (r T : ℕ) (old : Standing) (logs : ℕ → List Entry) (es : List Entry) (state : State) (books : List Book) → length old.books ≡ s.workers → length books ≡ s.workers → IsMerge old.state logs es → ((k : ℕ) → s.workers < k → logs k ≡ []) → ((k : ℕ) → k < s.workers → Ends s T k (book_at old k) (logs k) (get_or books k (blank_book 0))) → Injects s r (logs s.workers) → is_served s old.state es ≡ true → state ≡ led old.state es → RoundOf s r T old (record { tick = T; entries = es }) (record { state = state; books = books })
+merged-round s r T old logs es state books before after merge none turns injects served leads =
     record {
       tick = refl;
       history = (merge.0, leads);
-      turns = turns-all s T es 0 old.books books (blank_book 0) first (omega arith) (λ i lt.
+      turns = turns-all s T es 0 old.books books (blank_book 0) (omega arith) (λ i lt.
           let zero_more : i ≡ 0 + i = omega arith in
-          let own : Turn s (caller i) T (get_or old.books i (blank_book 0)) (calls_of i es) (get_or books i (blank_book 0)) = subst (λ (ys : List Entry). Turn s (caller i) T (get_or old.books i (blank_book 0)) ys (get_or books i (blank_book 0))) (sym (merge.1 i)) (turns i (omega arith)) in
-          subst (λ (v : ℕ). Turn s (caller v) T (get_or old.books i (blank_book 0)) (calls_of v es) (get_or books i (blank_book 0))) zero_more own);
+          let own : Ends s T i (get_or old.books i (blank_book 0)) (calls_of i es) (get_or books i (blank_book 0)) = subst (λ (ys : List Entry). Ends s T i (get_or old.books i (blank_book 0)) ys (get_or books i (blank_book 0))) (sym (merge.1 i)) (turns i (omega arith)) in
+          subst (λ (v : ℕ). Ends s T v (get_or old.books i (blank_book 0)) (calls_of v es) (get_or books i (blank_book 0))) zero_more own);
       injects = subst (λ (ys : List Entry). Injects s r ys) (sym (merge.1 s.workers)) injects;
       callers = callers-none s.workers es (λ k lt. merge.1 k ∙ none k lt);
       served = served;

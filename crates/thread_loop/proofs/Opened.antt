@@ -1,14 +1,8 @@
--- What an engine starts from.
-use Rattle.std.proofs.Common.{◌≡◌, ℕ, zero, suc, ◌+◌, ◌<◌, ◌≤◌, ◌&&◌, ltb, pos, Bool, true, false, List, [], ◌∷◌, ◌++◌, map, length, replicate, get_or, None, Result, Ok, Err, IfOk, IsTrue, refl, sym, ap, ◌∙◌, subst, arith, inl, inr, if◌then◌else◌}
-use Rattle.std.specs.List.{All, Contains}
-use Rattle.std.specs.List.Sorted.{IsPermutation}
-use Rattle.std.proofs.lemmas.Bool.{cases_eq, leb-true, ltb-true, lt-ltb}
-use Rattle.std.proofs.lemmas.List.Elements.{All-push, Contains-push, Contains-append_left}
-use Rattle.std.proofs.lemmas.List.Sorted.{IsPermutation-map, All-permutation, Contains-permutation}
-use Rattle.std.proofs.lemmas.List.{length-map, map-append, length-replicate, length-set, get_or-map, get_or-set_same, get_or-set_other, get_or_push, get_or_append_left, get_or_default, ext_get_or}
-use Rattle.sched_base.specs.declared.names.TaskId.{TaskId}
+-- What a plant starts from.
+use Rattle.std.proofs.Common.{◌≡◌, ℕ, zero, suc, ◌+◌, ◌<◌, ◌≤◌, Bool, true, false, List, [], ◌∷◌, ◌++◌, map, length, replicate, get_or, None, IsTrue, refl, sym, ap, ◌∙◌, subst, arith, inl, inr, if◌then◌else◌}
+use Rattle.std.proofs.lemmas.Bool.{cases_eq, leb-true}
+use Rattle.std.proofs.lemmas.List.{length-map, map-append, length-replicate, length-set, get_or-map, get_or-set_same, get_or-set_other, get_or_push, get_or_append_left, ext_get_or}
 use Rattle.step_tables.specs.declared.tables.Script.{Script}
-use Rattle.step_tables.specs.declared.tables.TaskDef.{TaskDef}
 use Rattle.task_machine.specs.declared.task.TaskState.{TaskState}
 use Rattle.task_machine.specs.Task.{resting, seated}
 use Rattle.task_machine.specs.Step.{State, task_at, put_task}
@@ -17,18 +11,13 @@ use Rattle.queue_model.specs.WaitList.{expiry_of}
 use Rattle.queue_model.specs.Clock.{Window, behind}
 use Rattle.run_model.specs.Book.{Book}
 use Rattle.run_model.specs.Standing.{opening, opened, blank_book}
-use Rattle.run_model.specs.Tables.{home_in, home_of, def_of, blank_task, row_number}
+use Rattle.run_model.specs.Tables.{home_of, def_of, blank_task}
 use Rattle.standing.proofs.Opening.{opening_each}
-use Rattle.step_tables.specs.declared.tables.Kind.{Kind}
-use Rattle.step_tables.specs.declared.tables.Kind.TheVariants.{Pinned, Shared, Tasklet}
-use Rattle.step_tables.specs.Sound.{is_sound, is_sound_kind, is_sound_task, rising_below}
-use Rattle.run_model.proofs.Readings.{both}
-use Rattle.turn_steps.proofs.Fit.{at_all, task_parts, sound_parts, within-parts, IsFit-sound}
+use Rattle.step_tables.specs.Sound.{is_sound, rising_below}
+use Rattle.turn_steps.proofs.Fit.{sound_parts, within-parts, IsFit-sound}
 use Rattle.turn_steps.specs.Left.{asked}
 use Rattle.thread_loop.specs.Workers.{number_of, tick_of, turns_of, takes_of, book_at_tick, stage_of, Fits}
-use Rattle.thread_loop.specs.Engines.{book_now, IsIdle, AtEvents}
-use Rattle.thread_loop.specs.Shops.{KnowsRows, is_shared, IsShared, HasShared}
-use Rattle.thread_loop.specs.declared.opening.Ranked.{Ranked}
+use Rattle.thread_loop.specs.Idle.{book_now, IsIdle}
 use Rattle.thread_loop.specs.declared.worker.Worker.{Worker}
 
 -- ---- the machine
@@ -96,23 +85,6 @@ opens_all s n m e h =
 
 -- ---- the rows, and the workers
 
-pub knows_first : (s : Script) (state : State) (rows : List ℕ) → state ≡ (opening s).state → rows ≡ replicate (length s.tasks) 0 → KnowsRows s state rows
-knows_first s state rows e f = record {
-  count = ap length f ∙ length-replicate (length s.tasks) 0;
-  known = λ i live. ap (λ rows. row_in rows i) f ∙ zeros (length s.tasks) i ∙ sym (ap (λ t. row_number s i t) (ap (λ st. (task_at st i).takes) e ∙ none i));
-}
-  where
-    row_in : List ℕ → ℕ → ℕ
-    row_in rows i = get_or rows i 0
-
-    zeros : (n i : ℕ) → row_in (replicate n 0) i ≡ 0
-    zeros zero i = refl
-    zeros (suc n) zero = refl
-    zeros (suc n) (suc i) = zeros n i
-
-    none : (i : ℕ) → (task_at (opening s).state i).takes ≡ 0
-    none i = opening_each s i (λ (t : TaskState). t.takes ≡ 0) refl refl
-
 blank_window : (T n : ℕ) → Window behind T (blank_book n).wait
 blank_window T n = record {
   keys = tt;
@@ -145,11 +117,6 @@ idle_more s n ws new w count idle last is k d lt =
       | inr differs ↦ subst (λ (x : Worker). IsIdle s 0 k (opening s).state x) (sym (ap (λ xs. get_or xs k d) is ∙ get_or_append_left ws (w ∷ []) d k (omega arith))) (idle k d (omega arith))
     ]
 
--- what follows from what a good answer has
-pub if_ok : {T E : Type 0} (r : Result T E) (P Q : T → Type 0) → IfOk r P → ((x : T) → P x → Q x) → IfOk r Q
-if_ok (Ok x) P Q p f = f x p
-if_ok (Err e) P Q p f = tt
-
 -- ---- what a sound script has
 
 pub few_tasks : (s : Script) → IsTrue (is_sound s) → length s.tasks ≤ 4096
@@ -162,91 +129,6 @@ pub home_below : (s : Script) (i : ℕ) → IsTrue (is_sound s) → home_of s i 
 home_below s i h = (IsFit-sound s h).homes i
 
 -- ---- the shared tasks
-
--- all shared tasks below n are listed
-abbrev pub ListsBelow : Script → ℕ → List Ranked → Type 0
-ListsBelow s n ts = (i : ℕ) → i < n → IsShared s i → Contains (map (λ t. t.id.0) ts) i
-
--- one more, which is shared
-pub lists_push : (s : Script) (n : ℕ) (ts new : List Ranked) (t : Ranked) → ListsBelow s n ts → t.id.0 ≡ n → new ≡ ts ++ t ∷ [] → ListsBelow s (n + 1) new
-lists_push s n ts new t h id is i lt shared =
-    let grown : map (λ t. t.id.0) new ≡ map (λ t. t.id.0) ts ++ t.id.0 ∷ [] = ap (λ ts. map (λ t. t.id.0) ts) is ∙ map-append (λ t. t.id.0) ts (t ∷ []) in
-    elim (cases_eq i n) [
-      | inl e ↦ subst (λ xs. Contains xs i) (sym grown) (subst (λ j. Contains (map (λ t. t.id.0) ts ++ t.id.0 ∷ []) j) (id ∙ sym e) (Contains-push (map (λ t. t.id.0) ts) t.id.0))
-      | inr differs ↦ subst (λ xs. Contains xs i) (sym grown) (Contains-append_left (map (λ t. t.id.0) ts) (t.id.0 ∷ []) i (h i (omega arith) shared))
-    ]
-
--- and one that is not
-pub lists_skip : (s : Script) (n : ℕ) (ts : List Ranked) → ListsBelow s n ts → (IsShared s n → ⊥) → ListsBelow s (n + 1) ts
-lists_skip s n ts h none i lt shared =
-    elim (cases_eq i n) [
-      | inl e ↦ absurd (none (subst (λ j. IsShared s j) e shared))
-      | inr differs ↦ h i (omega arith) shared
-    ]
-
-home_shared : (s : Script) (kind : Kind) → is_shared kind ≡ true → home_in s kind ≡ s.workers
-home_shared s (Shared nice) h = refl
-home_shared s (Pinned home nice) h = cc
-home_shared s (Tasklet home class) h = cc
-
-home_own : (s : Script) (kind : Kind) → is_sound_kind s.workers kind ≡ true → is_shared kind ≡ false → home_in s kind < s.workers
-home_own s (Shared nice) sound h = cc
-home_own s (Pinned home nice) sound h = ltb-true home s.workers (both _ _ sound).0
-home_own s (Tasklet home class) sound h = ltb-true home s.workers sound
-
-pub shared_is : (s : Script) (n : ℕ) → n < length s.tasks → is_shared (def_of s n).kind ≡ true → IsShared s n
-shared_is s n lt h = record { exists = lt; shared = home_shared s (def_of s n).kind h }
-
-pub shared_not : (s : Script) (n : ℕ) → IsTrue (is_sound s) → n < length s.tasks → is_shared (def_of s n).kind ≡ false → IsShared s n → ⊥
-shared_not s n sound lt h is =
-    let below = home_own s (def_of s n).kind (kind_sound s n sound) h in
-    let same = is.shared in
-    omega arith
-  where
-    some_workers : (w : ℕ) → 1 ≤ w → (ltb 0 w && true) ≡ true
-    some_workers w h = rw (lt-ltb 0 w (omega arith)) refl
-
-    kind_sound : (s : Script) (n : ℕ) → IsTrue (is_sound s) → is_sound_kind s.workers (def_of s n).kind ≡ true
-    kind_sound s n sound = at_all (is_sound_task s.workers (length s.tasks)) (λ d. is_sound_kind s.workers d.kind ≡ true) s.tasks n blank_task (sound_parts s sound).defs (λ d k. (task_parts s.workers (length s.tasks) d k).kind) (some_workers s.workers (few_workers s sound).0)
-
--- the numbers of ranked tasks, whatever their order
-pub has_shared : (s : Script) (ts us : List Ranked) (ids : List TaskId) → All (λ t. IsShared s t.id.0) ts → ((i : ℕ) → IsShared s i → Contains (map (λ t. t.id.0) ts) i) → IsPermutation ts us → ids ≡ map (λ t. t.id) us → HasShared s ids
-has_shared s ts us ids are all moved is = subst (λ ids. HasShared s ids) (sym is) (record {
-  are = λ n lt. subst (λ (x : TaskId). IsShared s x.0) (sym (get_or-map (λ (t : Ranked). t.id) us n none first (below n lt))) (All-permutation (λ (t : Ranked). IsShared s t.id.0) ts us moved are n none (below n lt));
-  all = λ i shared. (
-      let there = Contains-permutation (map (λ (t : Ranked). t.id.0) ts) (map (λ (t : Ranked). t.id.0) us) i (IsPermutation-map (λ (t : Ranked). t.id.0) ts us moved) (all i shared) in
-      let lt : there.0 < length us = omega (arith, there.1, length-map us (λ (t : Ranked). t.id.0)) in
-      let at : get_or (map (λ (t : Ranked). t.id) us) there.0 first ≡ (get_or us there.0 none).id = get_or-map (λ (t : Ranked). t.id) us there.0 none first lt in
-      let number : get_or (map (λ (t : Ranked). t.id.0) us) there.0 i ≡ (get_or us there.0 none).id.0 = get_or-map (λ (t : Ranked). t.id.0) us there.0 none i lt in
-      (there.0, omega (arith, length-map us (λ (t : Ranked). t.id)), ap (λ (x : TaskId). x.0) at ∙ sym number ∙ there.2));
-})
-  where
-    first : TaskId
-    first = record { 0 = 0 }
-
-    none : Ranked
-    none = record { nice = pos 0; id = first }
-
-    below : (n : ℕ) → n < length (map (λ (t : Ranked). t.id) us) → n < length us
-    below n lt = omega (arith, length-map us (λ (t : Ranked). t.id))
-
--- a task as it was read
-read : (s : Script) (n : ℕ) (tasks : List TaskDef) (d : TaskDef) → tasks ≡ s.tasks → n < length s.tasks → get_or tasks n d ≡ def_of s n
-read s n tasks d same lt = ap (λ ts. get_or ts n d) same ∙ get_or_default s.tasks n d blank_task lt
-
--- the same of a task as it was read
-pub shared_at : (s : Script) (n : ℕ) (tasks : List TaskDef) (d : TaskDef) → tasks ≡ s.tasks → n < length s.tasks → is_shared (get_or tasks n d).kind ≡ true → IsShared s n
-shared_at s n tasks d same lt h = shared_is s n lt (ap (λ (t : TaskDef). is_shared t.kind) (sym (read s n tasks d same lt)) ∙ h)
-
-pub shared_not_at : (s : Script) (n : ℕ) (tasks : List TaskDef) (d : TaskDef) → tasks ≡ s.tasks → IsTrue (is_sound s) → n < length s.tasks → is_shared (get_or tasks n d).kind ≡ false → IsShared s n → ⊥
-shared_not_at s n tasks d same sound lt h = shared_not s n sound lt (ap (λ (t : TaskDef). is_shared t.kind) (sym (read s n tasks d same lt)) ∙ h)
-
--- one shared task more
-pub ranked_push : (s : Script) (n : ℕ) (old new : List Ranked) (t : Ranked) → All (λ (t : Ranked). IsShared s t.id.0) old → ListsBelow s n old → IsShared s n → new ≡ old ++ t ∷ [] → t.id.0 ≡ n → All (λ (t : Ranked). IsShared s t.id.0) new × ListsBelow s (n + 1) new
-ranked_push s n old new t are all shared is id = (
-  subst (λ ts. All (λ (t : Ranked). IsShared s t.id.0) ts) (sym is) (All-push (λ (t : Ranked). IsShared s t.id.0) old t are (subst (λ (i : ℕ). IsShared s i) (sym id) shared)),
-  lists_push s n old new t all id is,
-)
 
 -- ---- the books, and the events
 
@@ -268,13 +150,7 @@ books_more s n ws new w h book is =
 pub events_rise : (s : Script) → IsTrue (is_sound s) → rising_below 0 s.rounds s.events ≡ true
 events_rise s h = (sound_parts s h).rising
 
-pub events_first : (s : Script) → IsTrue (is_sound s) → AtEvents s 0 0
-events_first s h = record { within = omega arith; passed = λ q le. refl; ahead = events_rise s h }
-
 pub same_standing : (s : Script) (state : State) (books : List Book) → state ≡ (opening s).state → books ≡ (opening s).books → record { state = state; books = books } ≡ opening s
 same_standing s state books e f =
     let front : record { state = state; books = books } ≡ record { state = (opening s).state; books = books } = ap (λ (m : State). record { state = m; books = books }) e in
     front ∙ ap (λ (bs : List Book). record { state = (opening s).state; books = bs }) f
-
-pub opening_count : (s : Script) (state : State) → state ≡ (opening s).state → length state.tasks ≡ length s.tasks
-opening_count s state e = ap (λ (m : State). length m.tasks) e ∙ length-map s.tasks (opened s)

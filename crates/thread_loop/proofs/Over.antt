@@ -17,10 +17,9 @@ use Rattle.task_machine.specs.declared.task.TaskState.{TaskState}
 use Rattle.task_machine.specs.Step.{State, task_at, bit}
 use Rattle.task_machine.specs.History.{IsMerge, led, calls_of}
 use Rattle.queue_model.specs.Clock.{Window, behind, ahead}
-use Rattle.run_model.specs.Versions.{is_second}
 use Rattle.run_model.specs.Book.{Book}
 use Rattle.run_model.specs.Lawful.{RoundOf}
-use Rattle.run_model.specs.Standing.{Standing, book_at, blank_book, draws_of, next_tick, is_served, was_drawn}
+use Rattle.run_model.specs.Standing.{Standing, book_at, blank_book, draws_of, next_tick, turn_ended, is_served, was_drawn}
 use Rattle.run_model.specs.Tables.{home_of}
 use Rattle.run_model.specs.Turn.{Turn}
 use Rattle.turn_steps.specs.Has.{caller}
@@ -48,11 +47,10 @@ use Rattle.wake_board.specs.Own.{known_takes, takes_in}
 use Rattle.wake_board.specs.Ends.{AllBack, AreHolders, Finishes, IsIdle, entries_in, entries_of, own_by}
 use Rattle.wake_board.proofs.Opens.{state-is}
 use Rattle.thread_loop.specs.Boards.{HasServed, draws_in, in_hand}
-use Rattle.thread_loop.specs.Engines.{book_now}
-use Rattle.thread_loop.specs.Engines as engines
+use Rattle.thread_loop.specs.Idle as idle
+use Rattle.thread_loop.specs.Idle.{book_now, Opened}
 use Rattle.thread_loop.specs.Holders.{holder_by}
-use Rattle.thread_loop.specs.Plants.{Holds, IsReady, IsRun, IsTurned, IsInjected, HasEnded, standing_of, homes_of}
-use Rattle.thread_loop.specs.Shops.{Opened}
+use Rattle.thread_loop.specs.Plants.{Holds, IsReady, IsRun, IsTurned, IsInjected, MayEnd, EndsTurn, IsStopped, HasEnded, standing_of, homes_of}
 use Rattle.thread_loop.specs.Workers.{number_of, tick_of, turns_of, takes_of, stage_of, Fits}
 use Rattle.thread_loop.specs.declared.plant.Plant.{Plant}
 use Rattle.thread_loop.specs.declared.plant.RoundInHand.{RoundInHand}
@@ -60,7 +58,7 @@ use Rattle.thread_loop.specs.declared.worker.Worker.{Worker}
 use Rattle.thread_loop.proofs.Holding.{home-in, holder-placed, shared-placed, holders-are}
 use Rattle.thread_loop.proofs.Merged.{boxed-is, has-drawn, merged-round}
 use Rattle.thread_loop.proofs.Opened.{few_workers}
-use Rattle.thread_loop.proofs.Rounds.{first_version, window_now}
+use Rattle.thread_loop.proofs.Windows.{window_now}
 
 -- ---- the passes
 
@@ -183,12 +181,12 @@ served-run s g p h d ws es run f merge =
 
 -- the plant after the round was ended
 pub record IsLeft (s : Script) (p q : Plant) : Type 0 where
-  pub workers : q.workers.items ≡ p.workers.items
+  pub count : length q.workers.items ≡ length p.workers.items
+  pub workers : (k : ℕ) (d : Worker) → k < length p.workers.items → EndsTurn s (get_or p.workers.items k d) (get_or q.workers.items k d)
   pub logs : q.logs.items ≡ p.logs.items
   pub homes : q.homes.items ≡ p.homes.items
   pub nexts : q.nexts ≡ p.nexts
   pub queue : length q.queue.ranks ≡ length p.queue.ranks
-  pub tick : q.tick ≡ (p.tick + s.step) % 2 ^ 32
   pub ended : q.ended ≡ p.ended + 1
   pub ran : q.ran ≡ false
   pub holders : HoldsAll s p q
@@ -219,21 +217,22 @@ state-over s g p q h d run left f =
 pub book-over : (p : Plant) (k : ℕ) (d : Worker) (b : Book) → k < length p.workers.items → get_or (standing_of p).books k b ≡ book_now (get_or p.workers.items k d)
 book-over p k d b lt = ap (λ (bs : List Book). get_or bs k b) (standing-books p) ∙ get_or-map book_now p.workers.items k d b lt
 
+-- a worker's book once its turn is ended
+pub turn-left : (s : Script) (g : Opened) (p q : Plant) (h : RoundInHand) (d : Worker) (k : ℕ) → IsRun s g p h → IsLeft s p q → k < s.workers → EndsTurn s (get_or p.workers.items k d) (get_or q.workers.items k d)
+turn-left s g p q h d k run left lt = left.workers k d (omega (arith, run.holds.count))
+
 pub round-over : (s : Script) (g : Opened) (p q : Plant) (h : RoundInHand) (d : Worker) (es : List Entry) → IsRun s g p h → IsLeft s p q → Finishes h.board h.passes q.words → IsMerge g.old.state (log_at p.logs.items) es → RoundOf s g.round g.tick g.old (record { tick = g.tick; entries = es }) (standing_of q)
 round-over s g p q h d es run left f merge =
-    let first = first_version s run.sound in
     let state : (standing_of q).state ≡ led g.old.state es = state-over s g p q h d run left f ∙ IsMerge-one_end g.old.state (log_at p.logs.items) f.history es (merge-logged s g p h d q.words run f) merge in
-    let count : length q.workers.items ≡ s.workers = ap (λ (ws : List Worker). length ws) left.workers ∙ run.holds.count in
+    let count : length q.workers.items ≡ s.workers = left.count ∙ run.holds.count in
     let books : length (standing_of q).books ≡ s.workers = ap (λ (bs : List Book). length bs) (standing-books q) ∙ length-map q.workers.items book_now ∙ count in
-    merged-round s g.round g.tick g.old (log_at p.logs.items) es (standing_of q).state (standing_of q).books first run.firm.places.books books merge (λ k lt. logs-past s g p h k run lt) (λ k lt.
+    merged-round s g.round g.tick g.old (log_at p.logs.items) es (standing_of q).state (standing_of q).books run.firm.places.books books merge (λ k lt. logs-past s g p h k run lt) (λ k lt.
     let w = run.turned k d lt in
-    let at : get_or (standing_of q).books k (blank_book 0) ≡ book_now (get_or p.workers.items k d) = book-over q k d (blank_book 0) (omega arith) ∙ ap (λ (ws : List Worker). book_now (get_or ws k d)) left.workers in
-    subst (λ (b : Book). Turn s (caller k) g.tick (book_at g.old k) (log_at p.logs.items k) b) (sym at) w.2.turn) run.injected.2.injects (served-run s g p h d q.words es run f merge) state
+    let ends = turn-left s g p q h d k run left lt in
+    let at : get_or (standing_of q).books k (blank_book 0) ≡ book_now (get_or q.workers.items k d) = book-over q k d (blank_book 0) (omega arith) in
+    (book_now (get_or p.workers.items k d), w.2.turn, at ∙ ends.book ∙ ap (λ T. turn_ended s T (book_now (get_or p.workers.items k d))) w.2.tick)) run.injected.2.injects (served-run s g p h d q.words es run f merge) state
 
 -- ---- the plant before the next round
-
-next-tick : (s : Script) (r T : ℕ) (st : Standing) → is_second s ≡ false → next_tick s r T st ≡ (T + s.step) % 2 ^ 32
-next-tick s r T st first = rw first refl
 
 -- the takes of a task among some entries, counted either way
 take_one : (i : ℕ) (e : Entry) (ys : List Entry) (b : Bool) → is_take i e.call ≡ b → takes_by i (e ∷ ys) ≡ bit b + takes_by i ys
@@ -277,20 +276,22 @@ own-takes s g p q h d k i es new run among home merge round live =
           known ∙ (let sum : (task_at w.0.start.state i).takes + takes_in i w.0.entries ≡ (task_at new.state i).takes = omega arith in sum))
     ]
 
-idle-over : (s : Script) (g : Opened) (p q : Plant) (h : RoundInHand) (d : Worker) (k : ℕ) (es : List Entry) → IsRun s g p h → IsLeft s p q → k < s.workers → IsMerge g.old.state (log_at p.logs.items) es → RoundOf s g.round g.tick g.old (record { tick = g.tick; entries = es }) (standing_of q) → engines.IsIdle s (g.round + 1) k (standing_of q).state (get_or q.workers.items k d)
+idle-over : (s : Script) (g : Opened) (p q : Plant) (h : RoundInHand) (d : Worker) (k : ℕ) (es : List Entry) → IsRun s g p h → IsLeft s p q → k < s.workers → IsMerge g.old.state (log_at p.logs.items) es → RoundOf s g.round g.tick g.old (record { tick = g.tick; entries = es }) (standing_of q) → idle.IsIdle s (g.round + 1) k (standing_of q).state (get_or q.workers.items k d)
 idle-over s g p q h d k es run left among merge round =
     let t = (run.turned k d among).2 in
     let clock = clock-round s g.round g.tick (g.round * round_takes s) g.old (record { tick = g.tick; entries = es }) (standing_of q) (IsFit-sound s run.sound) run.firm.tick (DelaysAreIn-sound s run.sound) run.firm.places run.firm.clock round k among in
-    let w = get_or p.workers.items k d in
-    let book : book_at (standing_of q) k ≡ book_now w = book-over q k d (blank_book 0) (omega (arith, ap (λ (ws : List Worker). length ws) left.workers, run.holds.count)) ∙ ap (λ (ws : List Worker). book_now (get_or ws k d)) left.workers in
-    subst (λ (ws : List Worker). engines.IsIdle s (g.round + 1) k (standing_of q).state (get_or ws k d)) (sym left.workers) (record {
-      fits = t.fits;
-      number = t.number;
-      turns = t.turns;
-      over = t.over;
-      window = subst (λ (T : ℕ). Window behind T (book_now w).wait) (sym t.tick) (window_now g.tick (book_now w) run.firm.tick (subst (λ (b : Book). Window ahead g.tick b.wait) book clock));
-      takes = λ i home live. own-takes s g p q h d k i es (standing_of q) run among home merge round live;
-    })
+    let v = get_or q.workers.items k d in
+    let ends = turn-left s g p q h d k run left among in
+    let book : book_at (standing_of q) k ≡ book_now v = book-over q k d (blank_book 0) (omega (arith, left.count, run.holds.count)) in
+    let tick : tick_of v ≡ g.tick = ends.tick ∙ t.tick in
+    record {
+      fits = ends.fits;
+      number = ends.number ∙ t.number;
+      turns = ends.turns ∙ t.turns;
+      over = ends.over;
+      window = subst (λ (T : ℕ). Window behind T (book_now v).wait) (sym tick) (window_now g.tick (book_now v) run.firm.tick (subst (λ (b : Book). Window ahead g.tick b.wait) book clock));
+      takes = λ i home live. ends.takes i ∙ own-takes s g p q h d k i es (standing_of q) run among home merge round live;
+    }
 
 -- the entries of all logs are few
 sum-below : (logs : List Logged) → ((k : ℕ) → k < length logs → length (log_at logs k) < 2 ^ 20) → entry_count logs ≤ length logs * 2 ^ 20
@@ -315,32 +316,48 @@ few-entries s g p h d run =
 takes_more : (r t : ℕ) → r * t + t ≡ (r + 1) * t
 takes_more r t = omega arith
 
-pub ended : (s : Script) (g : Opened) (p q : Plant) (h : RoundInHand) (d : Worker) → IsRun s g p h → IsLeft s p q → Finishes h.board h.passes q.words → HasEnded s g q
-ended s g p q h d run left f =
+-- each worker's turn may be ended once the round was run
+pub may-end : (s : Script) (g : Opened) (p : Plant) (h : RoundInHand) → IsRun s g p h → (k : ℕ) (d : Worker) → k < length p.workers.items → MayEnd s (get_or p.workers.items k d)
+may-end s g p h run k d lt = let t = (run.turned k d (omega (arith, run.holds.count))).2 in record { fits = t.fits; over = t.over }
+
+-- what holds of the plant whatever its tick
+pub holds-over : (s : Script) (g : Opened) (p q : Plant) (h : RoundInHand) (d : Worker) → IsRun s g p h → IsLeft s p q → Finishes h.board h.passes q.words → Holds s (standing_of q) q
+holds-over s g p q h d run left f =
+    let state = state-over s g p q h d run left f in
+    record {
+      stands = subst (λ (m : State). StandBetween q.words q.homes.items q.holders.items q.nexts m) (sym state) (stands-over s g p q h d run left f);
+      homes = left.homes ∙ run.holds.homes;
+      nexts = left.nexts ∙ run.holds.nexts;
+      count = left.count ∙ run.holds.count;
+      logs = ap (λ (ls : List Logged). length ls) left.logs ∙ run.holds.logs;
+      holders = left.holders.count ∙ run.holds.holders;
+      queue = left.queue ∙ run.holds.queue;
+    }
+
+pub stopped : (s : Script) (g : Opened) (p q : Plant) (h : RoundInHand) (d : Worker) → IsRun s g p h → IsLeft s p q → Finishes h.board h.passes q.words → IsStopped s q
+stopped s g p q h d run left f = record {
+  sound = run.sound;
+  holds = holds-over s g p q h d run left f;
+  fits = λ k e lt. (turn-left s g p q h e k run left lt).fits;
+}
+
+pub ended : (s : Script) (g : Opened) (p q : Plant) (h : RoundInHand) (d : Worker) → IsRun s g p h → IsLeft s p q → Finishes h.board h.passes q.words → q.tick ≡ next_tick s g.round g.tick (standing_of q) → HasEnded s g q
+ended s g p q h d run left f tick =
     let merge = merge-logged s g p h d q.words run f in
     let same_logs : (es : List Entry) → IsMerge g.old.state (log_at q.logs.items) es → IsMerge g.old.state (log_at p.logs.items) es = λ es m. subst (λ (ls : List Logged). IsMerge g.old.state (log_at ls) es) left.logs m in
     let round = round-over s g p q h d f.history run left f merge in
     let limit = takes_more g.round (round_takes s) in
     let firm = firm-round s g.round g.tick (g.round * round_takes s) g.old (record { tick = g.tick; entries = f.history }) (standing_of q) run.sound run.firm round in
-    let tick : next_tick s g.round g.tick (standing_of q) ≡ q.tick = next-tick s g.round g.tick (standing_of q) (first_version s run.sound) ∙ ap (λ T. (T + s.step) % 2 ^ 32) (sym run.tick) ∙ sym left.tick in
-    let state = state-over s g p q h d run left f in
     record {
       ready = record {
         sound = run.sound;
-        holds = record {
-          stands = subst (λ (m : State). StandBetween q.words q.homes.items q.holders.items q.nexts m) (sym state) (stands-over s g p q h d run left f);
-          homes = left.homes ∙ run.holds.homes;
-          nexts = left.nexts ∙ run.holds.nexts;
-          count = ap (λ (ws : List Worker). length ws) left.workers ∙ run.holds.count;
-          logs = ap (λ (ls : List Logged). length ls) left.logs ∙ run.holds.logs;
-          holders = left.holders.count ∙ run.holds.holders;
-          queue = left.queue ∙ run.holds.queue;
-        };
-        firm = subst (λ (T : ℕ). Firm s T ((g.round + 1) * round_takes s) (standing_of q)) tick (subst (λ (n : ℕ). Firm s (next_tick s g.round g.tick (standing_of q)) n (standing_of q)) limit firm);
+        holds = holds-over s g p q h d run left f;
+        firm = subst (λ (T : ℕ). Firm s T ((g.round + 1) * round_takes s) (standing_of q)) (sym tick) (subst (λ (n : ℕ). Firm s (next_tick s g.round g.tick (standing_of q)) n (standing_of q)) limit firm);
         idle = λ k d among. idle-over s g p q h d k f.history run left among merge round;
         ended = left.ended ∙ ap (λ n. n + 1) run.ended;
         ran = left.ran;
       };
+      tick = tick;
       few = subst (λ (ls : List Logged). entry_count ls < 2 ^ 32) (sym left.logs) (few-entries s g p h d run);
       merge = (f.history, subst (λ (ls : List Logged). IsMerge g.old.state (log_at ls) f.history) (sym left.logs) merge);
       round = λ es m. round-over s g p q h d es run left f (same_logs es m);

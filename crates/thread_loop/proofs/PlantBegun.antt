@@ -18,7 +18,7 @@ use Rattle.wake_board.specs.Between.{StandBetween, FewTakes}
 use Rattle.wake_board.specs.Ends.{Opens}
 use Rattle.wake_board.proofs.Opens.{state-is, one_state}
 use Rattle.thread_loop.specs.Boards.{log_of, turn_room, round_room, IsSame}
-use Rattle.thread_loop.specs.Engines.{book_now, IsIdle}
+use Rattle.thread_loop.specs.Idle.{book_now, IsIdle}
 use Rattle.thread_loop.specs.Plants.{Holds, IsReady, IsRoomy, IsOpened, CanRun, standing_of, homes_of, nobody}
 use Rattle.thread_loop.specs.Workers.{takes_of, tick_of, stage_of}
 use Rattle.thread_loop.specs.declared.plant.Plant.{Plant}

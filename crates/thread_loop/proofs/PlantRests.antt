@@ -14,7 +14,7 @@ use Rattle.task_word.specs.Word.{seen_in}
 use Rattle.task_word.proofs.Words.{seen_in-stands}
 use Rattle.run_model.specs.Standing.{is_still_at}
 use Rattle.wake_board.specs.Rows.{task_word}
-use Rattle.thread_loop.specs.Plants.{IsReady, is_still_seen, standing_of}
+use Rattle.thread_loop.specs.Plants.{Holds, is_still_seen, standing_of}
 use Rattle.thread_loop.specs.declared.plant.Plant.{Plant}
 
 -- ---- no event comes later
@@ -65,7 +65,7 @@ still-at (places.Drawn k) t = refl
 still-at (places.Runs k) t = refl
 still-at places.Gone t = refl
 
-pub still-word : (s : Script) (r i : ℕ) (p : Plant) → IsReady s r p → i < p.words.tasks → is_still_seen (seen_in (task_word p.words i)) ≡ is_still_at (task_at (standing_of p).state i).place
-still-word s r i p ready lt =
+pub still-word : (s : Script) (i : ℕ) (p : Plant) → Holds s (standing_of p) p → i < p.words.tasks → is_still_seen (seen_in (task_word p.words i)) ≡ is_still_at (task_at (standing_of p).state i).place
+still-word s i p holds lt =
     let t : TaskState = task_at (standing_of p).state i in
-    ap is_still_seen (seen_in-stands (task_word p.words i) (seen_of t) (ready.holds.stands.tasks i lt)) ∙ still-at t.place t
+    ap is_still_seen (seen_in-stands (task_word p.words i) (seen_of t) (holds.stands.tasks i lt)) ∙ still-at t.place t

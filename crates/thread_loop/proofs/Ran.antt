@@ -28,7 +28,7 @@ use Rattle.wake_board.specs.Seen.{Held, Laid}
 use Rattle.wake_board.specs.Ends.{fresh}
 use Rattle.history_weave.specs.Places.{log_at}
 use Rattle.thread_loop.specs.Boards.{log_of, IsSame, HasListed, HasServed, IsOwn}
-use Rattle.thread_loop.specs.Engines.{book_now, IsIdle}
+use Rattle.thread_loop.specs.Idle.{book_now, IsIdle}
 use Rattle.thread_loop.specs.Plants.{CanRun, HasTurned, AllTurned, IsRun, IsTurned, IsInjected, next_round, standing_of}
 use Rattle.thread_loop.specs.Rounds.{HasInjected, HasMade, AreSwapped}
 use Rattle.thread_loop.specs.Workers.{number_of, tick_of, book_at_tick, Fits}
@@ -93,7 +93,7 @@ events-short depth (a ∷ more) b = omega arith
 few_events : (s : Script) → IsTrue (is_sound s) → length s.events ≤ 65536
 unfolding is_sound
 few_events s h =
-    let v = both (s.version == 1) _ h in
+    let v = both (within 1 2 s.version) _ h in
     let a = both (within 1 16 s.workers) _ v.1 in
     let b = both (within 1 1000 s.depth) _ a.1 in
     let c = both (leb s.start 4294967295) _ b.1 in

@@ -7,7 +7,7 @@ use Rattle.step_tables.specs.declared.tables.Script.{Script}
 use Rattle.step_tables.specs.Sound.{is_sound, rising_below}
 use Rattle.run_model.specs.Tables.{actions_in}
 use Rattle.turn_steps.proofs.Fit.{sound_parts}
-use Rattle.thread_loop.specs.Engines.{actions_of, actions_all}
+use Rattle.thread_loop.specs.Events.{actions_of, actions_all}
 
 at_least : (from n : ℕ) (es : List Event) (j : ℕ) (d : Event) → rising_below from n es ≡ true → j < length es → from ≤ (get_or es j d).round
 at_least from n [] j d h lt = absurd (omega arith)

@@ -22,7 +22,7 @@ use Rattle.standing.specs.Between.{round_takes}
 use Rattle.wake_board.specs.Seen.{Held, Laid}
 use Rattle.wake_board.specs.Ends.{fresh}
 use Rattle.thread_loop.specs.Boards.{in_hand, IsBoardOf}
-use Rattle.thread_loop.specs.Engines.{book_now}
+use Rattle.thread_loop.specs.Idle.{book_now}
 use Rattle.thread_loop.specs.Plants.{IsReady, IsOpened, CanRun, CanTurn, AllCanTurn, standing_of}
 use Rattle.thread_loop.specs.Rounds.{AreNumbered, CanMake}
 use Rattle.thread_loop.specs.Workers.{number_of}

@@ -1,5 +1,5 @@
 -- What keeps a worker's invariant: the tasks of its stages are tasks, fewer calls are left, rows go with takes.
-use Rattle.std.proofs.Common.{◌≡◌, ℕ, ◌+◌, ◌-◌, ◌*◌, ◌^◌, ◌<◌, ◌≤◌, ◌==◌, List, length, get_or, Option, Some, None, refl, sym, ap, subst, ◌∙◌, arith, add-one, inl, inr, eq-eqb, if◌then◌else◌, IsTrue, IfSome, get_or-set_same, get_or-set_other, length-set}
+use Rattle.std.proofs.Common.{◌≡◌, ℕ, ◌+◌, ◌-◌, ◌*◌, ◌^◌, ◌<◌, ◌≤◌, ◌==◌, List, [], ◌∷◌, length, get_or, Option, Some, None, refl, sym, ap, subst, ◌∙◌, arith, add-one, inl, inr, eq-eqb, if◌then◌else◌, IsTrue, IfSome, get_or-set_same, get_or-set_other, length-set}
 use Rattle.std.specs.List.{range_with_len}
 use Rattle.std.proofs.Math.ListN.{set}
 use Rattle.std.proofs.lemmas.Bool.{cases_lt, cases_Bool, eqb-true}
@@ -8,6 +8,7 @@ use Rattle.std.proofs.lemmas.List.FromFn.{length-range_with_len}
 use Rattle.sched_base.specs.declared.names.CallerId.{CallerId}
 use Rattle.sched_base.specs.declared.names.TaskId.{TaskId}
 use Rattle.queue_model.specs.Classes.{Next}
+use Rattle.queue_model.specs.WaitList.{WaitItem, WaitList, expiry_of}
 use Rattle.step_tables.specs.declared.tables.Action.{Action}
 use Rattle.step_tables.specs.declared.tables.Action.TheVariants.{Wake as WakesOf, Kill as KillsOf}
 use Rattle.step_tables.specs.declared.tables.Script.{Script}
@@ -31,7 +32,7 @@ use Rattle.turn_steps.proofs.Hears.{grows}
 use Rattle.turn_steps.proofs.Measure.{within-gets, calls_left-heard, calls_left-went}
 use Rattle.turn_steps.proofs.Stages.{has-gets}
 use Rattle.thread_loop.specs.Queues.{book_of}
-use Rattle.thread_loop.specs.Turns.{book_in, stage_at, NamesTasks, IsGiven, KnowsRow, take_of}
+use Rattle.thread_loop.specs.Turns.{book_in, stage_at, unsettled, unsettled_in, NamesTasks, IsGiven, KnowsRow, take_of}
 use Rattle.thread_loop.specs.Workers.{RowsFit, is_taken, takes_after, takes_of, TellsTakes}
 use Rattle.thread_loop.specs.declared.queues.Queues.{Queues}
 use Rattle.thread_loop.specs.declared.worker.Worker.{Worker}
@@ -106,12 +107,19 @@ heard_calls s w T g r sound given = calls_left-heard s w T r g.left g.book given
 pub drew_calls : (s : Script) (i : ℕ) (g : Stage) → IsTrue (is_sound s) → home_of s i ≡ s.workers → 0 < steps.draws_now s g → calls_left s.depth (steps.drew s i g).left (steps.drew s i g).book < calls_left s.depth g.left g.book
 drew_calls s i g sound shared some = calls_left-went s (caller 0) 0 (Draw (record { 0 = i })) replies.Done g (IsFit-sound s sound) (inr (record { task = i; call = refl; shared = shared; some = some }))
 
--- room for all turns: at most 2^13 are put in by each call
-pub room_after : (m n c d t : ℕ) → n ≤ m + 2 ^ 13 → d < c → m + 2 ^ 13 * c ≤ t → n + 2 ^ 13 * d ≤ t
-room_after m n c d t grows less room = omega arith
+-- room for all turns: at most 2^13 are put in by each call, and as many as the timers settle
+pub unsettled-le : (l : WaitList) → unsettled l ≤ 1
+unsettled-le l = first l.items
+  where
+    first : (items : List WaitItem) → unsettled_in l items ≤ 1
+    first [] = omega arith
+    first (y ∷ ys) = elim (cases_Bool (expiry_of l y.task == y.key)) [ inl k ↦ rw k (omega arith) | inr k ↦ rw k (omega arith) ]
 
-pub room_begun : (m n c d t : ℕ) → n ≤ m + 2 ^ 13 → d ≤ 75265 → m + 2 ^ 13 * c ≤ t * 2 ^ 31 → n + 2 ^ 13 * d ≤ (t + 1) * 2 ^ 31
-room_begun m n c d t grows few room = omega arith
+pub room_after : (m n c d u v t : ℕ) → n ≤ m + 2 ^ 13 → d < c → v ≤ 1 → m + (2 ^ 14 * c + 2 ^ 13 * u) ≤ t → n + (2 ^ 14 * d + 2 ^ 13 * v) ≤ t
+room_after m n c d u v t grows less one room = omega arith
+
+pub room_begun : (m n c d u v t : ℕ) → n ≤ m + 2 ^ 13 → d ≤ 75265 → v ≤ 1 → m + (2 ^ 14 * c + 2 ^ 13 * u) ≤ t * 2 ^ 31 → n + (2 ^ 14 * d + 2 ^ 13 * v) ≤ (t + 1) * 2 ^ 31
+room_begun m n c d u v t grows few one room = omega arith
 
 -- ---- takes
 

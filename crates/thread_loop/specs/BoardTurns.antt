@@ -20,7 +20,7 @@ use Rattle.wake_board.specs.Outs.{out_of}
 use Rattle.wake_board.specs.Own.{known_takes}
 use Rattle.wake_board.specs.Ends.{own_by}
 use Rattle.thread_loop.specs.Workers.{number_of, tick_of, turns_of, takes_of, book_at_tick, stage_of, Fits}
-use Rattle.thread_loop.specs.Shops.{calls_in}
+use Rattle.thread_loop.specs.Workers.{calls_in}
 use Rattle.thread_loop.specs.Boards.{log_of, in_hand, IsBoardOf, KeepsTakes, HasGrown}
 use Rattle.thread_loop.specs.declared.worker.Worker.{Worker}
 

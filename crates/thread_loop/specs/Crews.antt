@@ -1,5 +1,5 @@
 -- What a crew tells of the rounds that it made (docs/MODEL.md, "Crews").
-use Rattle.std.specs.Prelude.{◌≡◌, ℕ, ◌+◌, true, false, Bool, List, [], ◌∷◌, ◌++◌, map, Option, Some, None}
+use Rattle.std.specs.Prelude.{◌≡◌, ℕ, ◌+◌, ◌≤◌, length, true, false, Bool, List, [], ◌∷◌, ◌++◌, map, Option, Some, None}
 use Rattle.std.specs.List.{flat_map, range_with_len}
 use Rattle.task_machine.specs.declared.calls.Entry.{Entry}
 use Rattle.task_machine.specs.Logged.{Logged}
@@ -36,3 +36,8 @@ told_if false ks = None
 pub record Recorded : Type 0 where
   pub told : Option (List Kept)
   pub room : ℕ
+
+-- a crew that told its calls tells these too, where they fit into its room; the room stays
+pub record HasKept (old : Recorded) (more : List Kept) (new : Recorded) : Type 0 where
+  pub room : new.room ≡ old.room
+  pub told : (ks : List Kept) → old.told ≡ Some ks → length (ks ++ more) ≤ old.room → new.told ≡ Some (ks ++ more)

@@ -1,8 +1,8 @@
 pub mod Queues
 pub mod Turns
 pub mod Workers
-pub mod Engines
-pub mod Shops
+pub mod Idle
+pub mod Events
 pub mod Boards
 pub mod Calls
 pub mod BoardTurns

@@ -1,5 +1,5 @@
 -- What a plant stands for, and a round that it makes on a board (docs/MODEL.md, "A round on threads").
-use Rattle.std.specs.Prelude.{◌≡◌, ℕ, suc, ◌+◌, ◌*◌, ◌^◌, ◌<◌, ◌≤◌, Bool, true, false, IsTrue, List, [], ◌∷◌, map, replicate, length, slice_index_or, Option, None, Some, vec_capacity, ⊤}
+use Rattle.std.specs.Prelude.{◌≡◌, ℕ, suc, ◌+◌, ◌*◌, ◌^◌, ◌<◌, ◌≤◌, Bool, true, false, IsTrue, List, [], ◌∷◌, map, replicate, length, slice_index_or, Option, None, Some, vec_capacity, if◌then◌else◌, ⊤}
 use Rattle.step_tables.specs.declared.tables.Script.{Script}
 use Rattle.step_tables.specs.Nexts.{nexts_of}
 use Rattle.step_tables.specs.Sound.{is_sound}
@@ -13,7 +13,7 @@ use Rattle.task_machine.specs.declared.task.Stand.TheVariants as stands
 use Rattle.queue_model.specs.Clock.{Window, behind}
 use Rattle.run_model.specs.Book.{Book}
 use Rattle.run_model.specs.Lawful.{Injects, RoundOf}
-use Rattle.run_model.specs.Standing.{Standing, book_at}
+use Rattle.run_model.specs.Standing.{Standing, book_at, next_tick, turn_ended, jumps, earliest, earlier_of, first_keys}
 use Rattle.run_model.specs.Tables.{home_in}
 use Rattle.run_model.specs.Turn.{Turn}
 use Rattle.turn_steps.specs.Left.{asked}
@@ -25,10 +25,9 @@ use Rattle.wake_board.specs.Start.{no_holder, state_by}
 use Rattle.wake_board.specs.Between.{StandBetween}
 use Rattle.wake_board.specs.Seen.{Held, Laid, IsPassOf}
 use Rattle.wake_board.specs.Ends.{fresh, own_by}
-use Rattle.thread_loop.specs.Workers.{number_of, tick_of, turns_of, stage_of, Fits}
+use Rattle.thread_loop.specs.Workers.{number_of, tick_of, turns_of, takes_of, stage_of, Fits}
 use Rattle.thread_loop.specs.Boards.{log_of, turn_room, round_room, IsBoardOf, HasListed, KeepsTakes, FewKnown, IsOwn, HasServed, HasGrown}
-use Rattle.thread_loop.specs.Engines.{book_now, IsIdle}
-use Rattle.thread_loop.specs.Shops.{Opened}
+use Rattle.thread_loop.specs.Idle.{book_now, IsIdle, Opened}
 use Rattle.thread_loop.specs.declared.worker.Worker.{Worker}
 use Rattle.thread_loop.specs.declared.plant.Plant.{Plant}
 use Rattle.thread_loop.specs.declared.plant.RoundInHand.{RoundInHand}
@@ -191,9 +190,42 @@ pub record IsRun (s : Script) (g : Opened) (p : Plant) (h : RoundInHand) : Type 
   pub tick : p.tick ≡ g.tick
   pub ran : p.ran ≡ true
 
--- round g is over: the logs have a legal merge, each legal merge is a lawful round, and the plant stands before the next
+-- a worker whose turn may be ended
+pub record MayEnd (s : Script) (w : Worker) : Type 0 where
+  pub fits : Fits s w
+  pub over : asked s (stage_of s w) ≡ None
+
+-- a worker and the same once its turn is ended
+pub record EndsTurn (s : Script) (w v : Worker) : Type 0 where
+  pub book : book_now v ≡ turn_ended s (tick_of w) (book_now w)
+  pub over : asked s (stage_of s v) ≡ None
+  pub fits : Fits s v
+  pub number : number_of v ≡ number_of w
+  pub tick : tick_of v ≡ tick_of w
+  pub turns : turns_of v ≡ turns_of w
+  pub takes : (i : ℕ) → takes_of v i ≡ takes_of w i
+
+-- a round was ended, but that the tick of the next one is still to be told
+pub record IsStopped (s : Script) (p : Plant) : Type 0 where
+  pub sound : IsTrue (is_sound s)
+  pub holds : Holds s (standing_of p) p
+  pub fits : (k : ℕ) (d : Worker) → k < s.workers → Fits s (slice_index_or p.workers.items k d)
+
+-- the tick to which the next round jumps, if it does
+abbrev pub jump_of : Script → ℕ → ℕ → Standing → Option ℕ
+jump_of s r T st = if jumps s r st then earliest T (first_keys st) else None
+
+-- the earlier one of two ticks that may be there
+abbrev pub earlier_in : ℕ → Option ℕ → Option ℕ → Option ℕ
+earlier_in T None u = u
+earlier_in T (Some t) None = Some t
+earlier_in T (Some t) (Some u) = Some (earlier_of T t u)
+
+-- round g is over: the logs have a legal merge, each legal merge is a lawful round, and the plant stands before the next,
+-- at its tick
 pub record HasEnded (s : Script) (g : Opened) (p : Plant) : Type 0 where
   pub ready : IsReady s (g.round + 1) p
+  pub tick : p.tick ≡ next_tick s g.round g.tick (standing_of p)
   pub few : entry_count p.logs.items < 2 ^ 32
   pub merge : (es : List Entry) × IsMerge g.old.state (log_at p.logs.items) es
   pub round : (es : List Entry) → IsMerge g.old.state (log_at p.logs.items) es → RoundOf s g.round g.tick g.old (record { tick = g.tick; entries = es }) (standing_of p)

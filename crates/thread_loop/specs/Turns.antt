@@ -1,8 +1,9 @@
 -- What a worker's turn stands for (docs/MODEL.md, "The worker").
-use Rattle.std.specs.Prelude.{◌≡◌, ℕ, ◌+◌, ◌-◌, ◌<◌, ◌≤◌, ◌==◌, Bool, true, false, List, [], ◌∷◌, drop, length, Option, None, Some}
+use Rattle.std.specs.Prelude.{◌≡◌, ℕ, ◌+◌, ◌-◌, ◌<◌, ◌≤◌, ◌==◌, Bool, true, false, List, [], ◌∷◌, drop, length, Option, None, Some, if◌then◌else◌}
 use Rattle.std.specs.List.{range_with_len}
 use Rattle.sched_base.specs.declared.names.TaskId.{TaskId}
 use Rattle.queue_model.specs.Sweep.{fired, swept}
+use Rattle.queue_model.specs.WaitList.{WaitItem, WaitList, expiry_of}
 use Rattle.step_tables.specs.declared.tables.Action.{Action}
 use Rattle.step_tables.specs.declared.tables.Row.{Row}
 use Rattle.step_tables.specs.declared.tables.Script.{Script}
@@ -10,6 +11,7 @@ use Rattle.task_machine.specs.declared.calls.Call.{Call}
 use Rattle.task_machine.specs.declared.calls.Call.TheVariants.{Take}
 use Rattle.task_machine.specs.declared.calls.Reply.{Reply}
 use Rattle.run_model.specs.Book.{Book}
+use Rattle.run_model.specs.Standing.{turn_ended}
 use Rattle.run_model.specs.Replies.{takes_in}
 use Rattle.run_model.specs.Tables.{groups, def_of, home_of, row_at, row_number}
 use Rattle.turn_steps.specs.Left as steps
@@ -68,6 +70,18 @@ stage_in s t = stage_at s t.tick t.queues t.phase
 -- the book with the timers as seen from the turn's tick
 abbrev pub book_now : Turn → Book
 book_now t = book_of t.tick t.queues
+
+-- 1 where the first timer does not stand at its expiry
+abbrev pub unsettled_in : WaitList → List WaitItem → ℕ
+unsettled_in l [] = 0
+unsettled_in l (y ∷ ys) = if expiry_of l y.task == y.key then 0 else 1
+
+abbrev pub unsettled : WaitList → ℕ
+unsettled l = unsettled_in l l.items
+
+-- a stage once the turn is ended
+abbrev pub ended : Script → ℕ → Stage → Stage
+ended s T g = stage g.left (turn_ended s T g.book)
 
 -- the row of a run is one of its task's
 abbrev pub HasRow : Script → Run → Type 0

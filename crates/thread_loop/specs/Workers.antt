@@ -9,11 +9,12 @@ use Rattle.task_machine.specs.declared.calls.Reply.{Reply}
 use Rattle.run_model.specs.Book.{Book}
 use Rattle.run_model.specs.Replies.{takes_in}
 use Rattle.run_model.specs.Tables.{row_number}
-use Rattle.turn_steps.specs.Left.{Stage}
+use Rattle.turn_steps.specs.Left.{Stage, asked, heard}
+use Rattle.turn_steps.specs.Has.{caller}
 use Rattle.turn_steps.specs.Counts.{calls_left}
 use Rattle.wake_board.specs.declared.body.Body.{Body}
 use Rattle.thread_loop.specs.Queues.{book_of, made_of}
-use Rattle.thread_loop.specs.Turns.{stage_in, TurnFits, NamesTasks}
+use Rattle.thread_loop.specs.Turns.{stage_in, unsettled, TurnFits, NamesTasks}
 use Rattle.thread_loop.specs.declared.worker.Worker.{Worker}
 
 -- its number, the tick of the turn that was begun last, and how many turns were begun
@@ -44,6 +45,10 @@ pub record RowsFit (s : Script) (ns ts : List ℕ) : Type 0 where
   pub takes : length ts ≡ length s.tasks
   pub same : (i : ℕ) → i < length s.tasks → slice_index_or ns i 0 ≡ row_number s i (slice_index_or ts i 0)
 
+-- so many may still be put into the queues: 2^14 for each call that is left, and 2^13 where the timers are not settled
+abbrev pub room_left : Script → Stage → ℕ
+room_left s g = 2 ^ 14 * calls_left s.depth g.left g.book + 2 ^ 13 * unsettled g.book.wait
+
 -- its turn and its tables are those of a worker of the script, and the queues have room for all turns
 pub record WorkerFits (s : Script) (w : Worker) : Type 0 where
   pub sound : IsTrue (is_sound s)
@@ -52,7 +57,7 @@ pub record WorkerFits (s : Script) (w : Worker) : Type 0 where
   pub rows : RowsFit s w.rows.items w.takes.items
   pub number : w.number < s.workers
   pub turns : w.turns ≤ 10000000
-  pub room : made_of w.turn.queues + 2 ^ 13 * calls_left s.depth (stage_in s w.turn).left (stage_in s w.turn).book ≤ w.turns * 2 ^ 31
+  pub room : made_of w.turn.queues + room_left s (stage_in s w.turn) ≤ w.turns * 2 ^ 31
 
 -- it is a worker of the script
 unfoldable pub Fits : Script → Worker → Type 0
@@ -76,3 +81,17 @@ takes_after c i t = t
 abbrev pub TellsTakes : Worker → Call → Reply → Type 0
 TellsTakes w (Take j) r = (takes_in r ≡ takes_of w j.0) × (takes_in r < 2 ^ 48 - 1)
 TellsTakes w c r = Unit {0}
+
+-- at most so many calls does a worker still make
+abbrev pub calls_in : Script → Worker → ℕ
+calls_in s w = calls_left s.depth (stage_of s w).left (stage_of s w).book
+
+-- what a worker heard of a reply to its next call
+pub record Heard (s : Script) (c : Call) (r : Reply) (old new : Worker) : Type 0 where
+  pub stage : stage_of s new ≡ heard s (caller (number_of old)) (tick_of old) r (stage_of s old)
+  pub fits : Fits s new
+  pub number : number_of new ≡ number_of old
+  pub tick : tick_of new ≡ tick_of old
+  pub turns : turns_of new ≡ turns_of old
+  pub takes : (i : ℕ) → takes_of new i ≡ takes_after c i (takes_of old i)
+  pub book : asked s (stage_of s new) ≡ None → book_at_tick (tick_of new) new ≡ (stage_of s new).book

@@ -5,7 +5,7 @@ ghost use Rattle.std.specs.Prelude.{◌≡◌, ℕ, ◌+◌, ◌-◌, ◌^◌, �
 ghost use Rattle.turn_steps.specs.Left.{asked, begun};
 ghost use Rattle.turn_steps.specs.Has.{caller, said, drawn_by};
 ghost use Rattle.thread_loop.specs.Workers.{number_of, tick_of, turns_of, takes_of, book_at_tick, stage_of, Fits};
-ghost use Rattle.thread_loop.specs.Shops.{calls_in};
+ghost use Rattle.thread_loop.specs.Workers.{calls_in};
 ghost use Rattle.thread_loop.specs.Boards.{log_of, IsSame};
 ghost use Rattle.thread_loop.specs.BoardTurns.{OnBoard, HasCalled};
 

@@ -8,7 +8,7 @@ ghost use Rattle.turn_steps.specs.Left.{asked, draws_now};
 ghost use Rattle.turn_steps.specs.Has.{drawn_by};
 ghost use Rattle.wake_board.specs.Seen.{Held};
 ghost use Rattle.thread_loop.specs.Workers.{stage_of};
-ghost use Rattle.thread_loop.specs.Shops.{calls_in};
+ghost use Rattle.thread_loop.specs.Workers.{calls_in};
 ghost use Rattle.thread_loop.specs.BoardTurns.{OnBoard, HasCalled, IsDrawn, at_home};
 ghost use Rattle.thread_loop.specs.Calls.{IsMade};
 

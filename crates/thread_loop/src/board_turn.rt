@@ -7,7 +7,7 @@ ghost use Rattle.turn_steps.specs.Has.{caller};
 ghost use Rattle.step_tables.specs.Nexts.{nexts_of};
 ghost use Rattle.wake_board.specs.Seen.{IsPassOf};
 ghost use Rattle.thread_loop.specs.Workers.{number_of, tick_of, turns_of, book_at_tick, stage_of, Fits};
-ghost use Rattle.thread_loop.specs.Shops.{calls_in};
+ghost use Rattle.thread_loop.specs.Workers.{calls_in};
 ghost use Rattle.thread_loop.specs.Boards.{log_of, IsSame, turn_room, IsBoardOf, HasListed, KeepsTakes, FewKnown, IsOwn, IsMissed, HasServed, HasGrown};
 ghost use Rattle.thread_loop.specs.BoardTurns.{OnBoard, HasCalled};
 

@@ -1,9 +1,9 @@
 //! Who makes the rounds of a plant.
 
-ghost use Rattle.std.specs.Prelude.{◌≡◌, ◌≤◌, ◌++◌, [], Some, true, IfOk};
+ghost use Rattle.std.specs.Prelude.{◌≡◌, ◌≤◌, ◌<◌, ◌+◌, ◌++◌, [], Some, true, false, length, vec_capacity, IfOk};
 ghost use Rattle.std.specs.Option.{option_map};
 ghost use Rattle.thread_loop.specs.Plants.{logs_of, next_round, CanRun, IsRun};
-ghost use Rattle.thread_loop.specs.Crews.{kept, kept_logs, Grows, IsHeard};
+ghost use Rattle.thread_loop.specs.Crews.{kept, kept_logs, Grows, IsHeard, HasKept};
 
 use crate::plant::{Plant, RoundInHand};
 use sched_base::Gate;
@@ -115,14 +115,21 @@ impl RecordCrew {
 impl Crew for RecordCrew {
     ghost told = { λ c. c.told };
 
-    fn heard(&mut self, plant: &Plant, round: u32) {
+    fn heard(&mut self, plant: &Plant, round: u32)
+        requires { IsHeard plant.now }
+        ensures grown { Grows self.old.told self.new.told (kept_logs round (logs_of plant.now)) }
+        // What fits into its room it keeps.
+        ensures kept { HasKept self.old (kept_logs round (logs_of plant.now)) self.new }
+    {
         self.tells = self.tells && keep_all(&mut self.calls, round, plant.logs());
     }
 }
 
 /// Keeps the calls of all logs, and says whether they fitted into the room that is left.
 fn keep_all(calls: &mut Vec<Kept>, round: u32, logs: &[Log]) -> bool
-    ensures { result ≡ true → calls.new.items ≡ calls.old.items ++ kept_logs round logs.now }
+    ensures kept { result ≡ true → calls.new.items ≡ calls.old.items ++ kept_logs round logs.now }
+    ensures full { result ≡ false → vec_capacity calls.old < length calls.old.items + length (kept_logs round logs.now) }
+    ensures room { vec_capacity calls.new ≡ vec_capacity calls.old }
 {
     for log in logs {
         if !keep(calls, round, log.as_slice()) {
@@ -134,7 +141,9 @@ fn keep_all(calls: &mut Vec<Kept>, round: u32, logs: &[Log]) -> bool
 
 /// Keeps some calls, and says whether they fitted into the room that is left.
 fn keep(calls: &mut Vec<Kept>, round: u32, entries: &[Entry]) -> bool
-    ensures { result ≡ true → calls.new.items ≡ calls.old.items ++ kept round entries.now }
+    ensures kept { result ≡ true → calls.new.items ≡ calls.old.items ++ kept round entries.now }
+    ensures full { result ≡ false → vec_capacity calls.old < length calls.old.items + length entries.now }
+    ensures room { vec_capacity calls.new ≡ vec_capacity calls.old }
 {
     for entry in entries {
         if calls.len() == calls.capacity() {

@@ -6,7 +6,7 @@ ghost use Rattle.run_model.specs.Tables.{actions_in};
 ghost use Rattle.task_machine.specs.Own.{away};
 ghost use Rattle.wake_board.specs.Seen.{IsPassOf};
 ghost use Rattle.wake_board.specs.Ends.{own_by};
-ghost use Rattle.thread_loop.specs.Engines.{actions_all};
+ghost use Rattle.thread_loop.specs.Events.{actions_all};
 ghost use Rattle.step_tables.specs.Sound.{is_sound};
 ghost use Rattle.step_tables.specs.declared.tables.Action.{Action};
 ghost use Rattle.turn_steps.specs.Has.{caller, said};
@@ -39,7 +39,7 @@ impl Model for Injector {
 }
 
 /// The events of a round.
-fn events_of(script: &Script, round: u32) -> &[Event]
+pub(crate) fn events_of(script: &Script, round: u32) -> &[Event]
     ensures actions { actions_all result.now ≡ actions_in script.now round }
     ensures sound { IsTrue (is_sound script.now) }
 {

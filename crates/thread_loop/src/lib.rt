@@ -1,5 +1,5 @@
-//! A worker's turn of a round, one call at a time, and the engine that makes the calls of all callers one
-//! after another (docs/MODEL.md, "The worker").
+//! A worker's turn of a round, one call at a time, and the rounds of all callers on threads (docs/MODEL.md, "The
+//! worker", "A round on threads").
 #![tactic(auto)]
 
 mod board_calls;
@@ -7,7 +7,6 @@ mod board_draws;
 mod board_turn;
 mod calls;
 mod crew;
-mod engine;
 mod holders;
 mod injector;
 mod lookups;
@@ -16,16 +15,16 @@ mod plant;
 mod player;
 mod queues;
 mod round;
-mod shop;
 #[cfg(test)]
 mod tests;
 mod turn;
 mod worker;
 
 pub use crew::{Crew, Kept, RecordCrew, ThreadCrew};
-pub use engine::Engine;
 pub use injector::Injector;
-pub use plant::{Plant, RoundInHand};
+pub use lookups::{call_of, home_of, is_rest, target};
+pub use opening::{machine_of, workers_of};
+pub use plant::{Plant, RoundInHand, earlier_in, end_turns};
 pub use player::Player;
 pub use wake_board::Body;
 pub use worker::Worker;

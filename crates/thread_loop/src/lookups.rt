@@ -26,7 +26,7 @@ fn task_of(script: &Script, id: TaskId) -> &TaskDef
 }
 
 /// The box to which a task is posted: its worker's, or the shared box, whose number is that of workers.
-pub(crate) fn home_of(script: &Script, id: TaskId) -> u32
+pub fn home_of(script: &Script, id: TaskId) -> u32
     requires { id.0 < length script.now.tasks }
     ensures { result ≡ home_of script.now id.0 }
 {
@@ -65,7 +65,7 @@ pub(crate) fn row_at(script: &Script, id: TaskId, row: u32) -> &Row
 }
 
 /// The call by which an action is made.
-pub(crate) fn call_of(action: &Action) -> Call
+pub fn call_of(action: &Action) -> Call
     ensures { result ≡ call_of action.now }
 {
     match *action {
@@ -75,7 +75,7 @@ pub(crate) fn call_of(action: &Action) -> Call
 }
 
 /// The task that an action names.
-pub(crate) fn target(action: &Action) -> TaskId
+pub fn target(action: &Action) -> TaskId
     ensures { result.0 ≡ target action.now }
 {
     match *action {
@@ -85,7 +85,7 @@ pub(crate) fn target(action: &Action) -> TaskId
 }
 
 /// Whether a call saw its task at rest, so that the task is now in the caller's hands.
-pub(crate) fn is_rest(reply: &Reply) -> bool
+pub fn is_rest(reply: &Reply) -> bool
     ensures { result ≡ is_rest reply.now }
 {
     match *reply {

@@ -7,12 +7,12 @@ ghost use Rattle.task_machine.specs.Own.{Own, own_of};
 ghost use Rattle.task_word.specs.Word.{seen_in};
 ghost use Rattle.thread_loop.specs.Boards.{log_of, turn_room, IsSame};
 ghost use Rattle.thread_loop.specs.Holders.{holder_by};
-ghost use Rattle.run_model.specs.Standing.{opening, is_at_rest, is_still, no_later, no_timer};
-ghost use Rattle.thread_loop.specs.Shops.{Opened};
-ghost use Rattle.thread_loop.specs.Plants.{standing_of, tick_next, logs_of, next_round, is_still_seen, IsReady, IsRoomy, CanRun, IsRun, HasEnded};
+ghost use Rattle.run_model.specs.Standing.{opening, is_at_rest, is_still, no_later, no_timer, next_tick, earliest, first_keys, has_event};
+ghost use Rattle.thread_loop.specs.Idle.{Opened};
+ghost use Rattle.thread_loop.specs.Plants.{standing_of, tick_next, logs_of, next_round, is_still_seen, jump_of, earlier_in, Holds, IsReady, IsRoomy, CanRun, IsRun, MayEnd, EndsTurn, IsStopped, HasEnded};
 
 use crate::holders::hold;
-use crate::injector::Injector;
+use crate::injector::{Injector, events_of};
 use crate::opening::{holders_of, homes_of, logs_of, queue_of, words_of, workers_of};
 use crate::round::{make_round, swap_logs};
 use crate::worker::Worker;
@@ -24,6 +24,7 @@ use std::thread::Threads;
 use step_tables::{Nexts, Script};
 use task_machine::{Log, Seen, Stand};
 use task_word::seen_of;
+use ticks::distance;
 use wake_board::{Board, Pass, Passes, Words};
 
 /// All that makes the rounds of a script. Contracts see what stands between rounds, and the logs of the last round.
@@ -60,6 +61,7 @@ impl Plant {
     /// The plant before round 0 of a script. The one error is want of memory.
     pub fn new(alloc: Global, script: &Script) -> Result<Plant, AllocError>
         ensures opening { IfOk result (λ p. standing_of p ≡ opening script.now) }
+        ensures tick { IfOk result (λ p. tick_next p ≡ script.now.start) }
         ensures ready { IfOk result (λ p. IsReady script.now 0 p) }
     {
         Ok(Plant {
@@ -171,9 +173,53 @@ impl Plant {
             &self.logs,
             script.workers(),
         );
-        self.tick = self.tick.wrapping_add(script.step());
+        end_turns(&mut self.workers, script);
         self.ended += 1;
         self.ran = false;
+        self.tick = self.next_tick(script);
+    }
+
+    /// The tick of the next round, after one at the tick that is kept: one step later, or else that of the first timer.
+    fn next_tick(&self, script: &Script) -> u32
+        requires { IsStopped script.now self.now }
+        ensures { (r : ℕ) → self.now.ended ≡ r + 1 → result ≡ next_tick script.now r self.now.tick (standing_of self.now) }
+    {
+        match self.jump(script) {
+            Some(tick) => tick,
+            None => self.tick.wrapping_add(script.step()),
+        }
+    }
+
+    /// The tick of the first timer of all workers, where from version 2 on nothing else is left to wait for.
+    fn jump(&self, script: &Script) -> Option<u32>
+        requires { IsStopped script.now self.now }
+        ensures { (r : ℕ) → self.now.ended ≡ r + 1 → result ≡ jump_of script.now r self.now.tick (standing_of self.now) }
+    {
+        if script.version() < 2 {
+            return None;
+        }
+        if has_event(script, self.ended) {
+            return None;
+        }
+        let Some(tick) = self.first_timer(script) else {
+            return None;
+        };
+        if !self.is_still() {
+            return None;
+        }
+        Some(tick)
+    }
+
+    /// The tick of the first timer of all workers; none where no timer is left.
+    fn first_timer(&self, script: &Script) -> Option<u32>
+        requires { IsStopped script.now self.now }
+        ensures { result ≡ earliest self.now.tick (first_keys (standing_of self.now)) }
+    {
+        let mut first = None;
+        for worker in self.workers.iter() {
+            first = earlier_in(self.tick, first, worker.first_key(script));
+        }
+        first
     }
 
     /// The tick of the next round.
@@ -207,7 +253,7 @@ impl Plant {
 
     /// Whether all tasks rest or are gone.
     fn is_still(&self) -> bool
-        requires { (s : Script) × (r : ℕ) × IsReady s r self.now }
+        requires { (s : Script) × Holds s (standing_of self.now) self.now }
         ensures { result ≡ is_still (standing_of self.now) }
     {
         for number in 0..self.words.tasks() {
@@ -256,6 +302,40 @@ fn hold_all(holders: &mut [u32], homes: &[u32], logs: &[Log], workers: u32)
     for who in 0..workers {
         hold(holders, homes, who, logs[who as usize].as_slice());
     }
+}
+
+/// Ends the turns of all workers, of which none has a call left.
+pub fn end_turns(workers: &mut Vec<Worker>, script: &Script)
+    requires { (k : ℕ) (d : Worker) → k < length workers.old.items → MayEnd script.now (slice_index_or workers.old.items k d) }
+    ensures count { length workers.new.items ≡ length workers.old.items }
+    ensures ended { (k : ℕ) (d : Worker) → k < length workers.old.items → EndsTurn script.now (slice_index_or workers.old.items k d) (slice_index_or workers.new.items k d) }
+{
+    for worker in workers.iter_mut() {
+        worker.end_turn(script);
+    }
+}
+
+/// The earlier one of two ticks, as seen from now; where one is not there, the other one.
+pub fn earlier_in(now: u32, first: Option<u32>, second: Option<u32>) -> Option<u32>
+    ensures { result ≡ earlier_in now first second }
+{
+    let Some(early) = first else {
+        return second;
+    };
+    let Some(late) = second else {
+        return first;
+    };
+    if distance(early, now) <= distance(late, now) {
+        return Some(early);
+    }
+    Some(late)
+}
+
+/// Whether a round has an event.
+fn has_event(script: &Script, round: u32) -> bool
+    ensures { result ≡ has_event script.now round }
+{
+    !events_of(script, round).is_empty()
 }
 
 /// Whether no event comes after a round.

@@ -3,7 +3,7 @@
 
 ghost use Rattle.std.specs.Prelude.{◌≡◌, ℕ, suc, ◌<◌, ◌+◌, ◌^◌, IfOk, OnOk};
 ghost use Rattle.run_model.specs.Lawful.{RoundOf};
-ghost use Rattle.run_model.specs.Standing.{opening, is_at_rest};
+ghost use Rattle.run_model.specs.Standing.{opening, is_at_rest, next_tick};
 ghost use Rattle.history_weave.specs.Places.{entry_count};
 ghost use Rattle.thread_loop.specs.Crews.{kept_calls, Grows};
 ghost use Rattle.thread_loop.specs.Players.{standing_of, tick_of, entries_of, IsReady};
@@ -31,6 +31,7 @@ impl Player {
     /// The player before round 0 of a script. The one error is want of memory.
     pub fn new(alloc: Global, script: &Script) -> Result<Player, AllocError>
         ensures opening { IfOk result (λ p. standing_of p ≡ opening script.now) }
+        ensures tick { IfOk result (λ p. tick_of p ≡ script.now.start) }
         ensures ready { IfOk result (λ p. IsReady script.now 0 p) }
     {
         let machine = machine_of(alloc, script)?;
@@ -55,6 +56,7 @@ impl Player {
         requires ready { IsReady script.now round self.old }
         requires more { round < script.now.rounds }
         ensures made { OnOk result (RoundOf script.now round (tick_of self.old) (standing_of self.old) (record { tick = tick_of self.old; entries = entries_of self.new }) (standing_of self.new)) }
+        ensures next { OnOk result (tick_of self.new ≡ next_tick script.now round (tick_of self.old) (standing_of self.new)) }
         ensures ready { OnOk result (IsReady script.now (round + 1) self.new) }
         ensures told { OnOk result (Grows (C.told crew.old) (C.told crew.new) (kept_calls round (suc script.now.workers) (entries_of self.new))) }
     {

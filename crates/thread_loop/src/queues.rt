@@ -6,6 +6,7 @@ ghost use Rattle.task_machine.specs.declared.calls.Reply.TheVariants as replies;
 ghost use Rattle.queue_model.specs.Classes.{Classes, of_class, run_in, next_run, quotas};
 ghost use Rattle.queue_model.specs.Sweep.{fired, swept};
 ghost use Rattle.queue_model.specs.Clock.{Window, behind};
+ghost use Rattle.queue_model.specs.Settle.{settled, IsSettled};
 ghost use Rattle.queue_model.specs.RunList.{arrived, without_least};
 ghost use Rattle.run_queue.specs.Runners.{first_task};
 ghost use Rattle.queue_model.specs.SweepStep.{first_fired, swept_once};
@@ -257,6 +258,19 @@ impl Queues {
             }
             Expiry::Never => self.timers.set_expiry(id, ETERNITY),
         }
+    }
+
+    /// Settles the timers, as seen from `now`.
+    pub(crate) fn settle(&mut self, script: &Script, now: u32)
+        requires fits { Fits script.now self.old }
+        requires room { made_of self.old + length script.now.tasks < 2 ^ 63 }
+        ensures book { book_of now self.new ≡ record (book_of now self.old) { wait = settled now (book_of now self.old).wait } }
+        ensures fits { Fits script.now self.new }
+        ensures made { Grows (length script.now.tasks) self.old self.new }
+        ensures stays { IsSettled (book_of now self.old).wait → made_of self.new ≡ made_of self.old }
+    {
+        self.timers.settle(&mut self.forest, now);
+        self.forest.stay_keyed();
     }
 
     /// There are no more timers than tasks. The call does nothing, and its contract is the law.

@@ -8,7 +8,7 @@ ghost use Rattle.thread_loop.specs.Boards.{IsBoardOf};
 ghost use Rattle.thread_loop.specs.Plants.{AllCanTurn, AllTurned};
 ghost use Rattle.thread_loop.specs.Rounds.{CanInject, HasInjected, AreNumbered, AllIdle, AreSwapped, CanMake, HasMade};
 
-use crate::injector::Injector;
+use crate::injector::{Injector, events_of};
 use crate::worker::Worker;
 use eb32_core::Forest;
 use sched_base::{CallerId, Gate};
@@ -86,7 +86,8 @@ fn both<R: Threads + Sync, G: Gate + Sync>(
     );
 }
 
-/// Makes the turns of all workers and the injector's part side by side.
+/// Makes the turns of all workers and the injector's part side by side. An injector that has no event makes no call, and
+/// gets no thread.
 pub(crate) fn all_calls<R: Threads + Sync, G: Gate + Sync>(
     rt: &R,
     script: &Script,
@@ -108,6 +109,11 @@ pub(crate) fn all_calls<R: Threads + Sync, G: Gate + Sync>(
     ensures injected { HasInjected script.now round last.old injector.new last.new }
     ensures turned { AllTurned script.now tick workers.old passes.old workers.new passes.new }
 {
+    if events_of(script, round).is_empty() {
+        injector.inject(script, board, last, round, gate);
+        turns(rt, script, board, queue, tick, gate, workers, passes);
+        return;
+    }
     join_mut(
         rt,
         &mut ||

@@ -1,10 +1,12 @@
 //! What a worker has in its forest after a turn.
 
-use crate::engine::Engine;
 use crate::injector::Injector;
+use crate::plant::Plant;
 use crate::worker::Worker;
+use sched_base::OpenGate;
 use std::alloc::{AllocError, Global};
 use std::test::Fail;
+use std::thread::Threads;
 use step_tables::Script;
 
 /// A task that sets a timer past the end of the ticks, and is killed by its next run.
@@ -33,14 +35,20 @@ fn first_of(worker: &Worker) -> Queued {
 }
 
 /// What the first worker has after the first round.
-fn after_first_round(alloc: Global, script: &Script) -> Result<Option<Queued>, AllocError> {
-    let start = script.start();
-    let mut engine = Engine::new(alloc, script)?;
-    if script.rounds() == 0 {
+fn after_first_round<R: Threads + Sync>(
+    rt: &R,
+    alloc: Global,
+    script: &Script,
+) -> Result<Option<Queued>, AllocError> {
+    let rounds = script.rounds();
+    let mut plant = Plant::new(alloc, script)?;
+    if rounds == 0 {
         return Ok(None);
     }
-    engine.round(script, 0, start)?;
-    Ok(engine.workers.first().map(first_of))
+    let mut hand = plant.begin_round(alloc, script, 0)?;
+    plant.run_round(rt, script, &mut hand, 0, &OpenGate);
+    plant.end_round(script, hand);
+    Ok(plant.workers.first().map(first_of))
 }
 
 #[test]
@@ -52,7 +60,7 @@ fn timer_of_a_first_turn_stands_in_the_forest(rt: HostRuntime) -> Result<(), Fai
             key: Some(4),
             run: None,
         };
-        assert_eq!(rt; after_first_round(alloc, &script)?, Some(wanted));
+        assert_eq!(rt; after_first_round(&rt, alloc, &script)?, Some(wanted));
     } else {
         assert!(rt; false);
     }

@@ -1,6 +1,6 @@
 //! A worker's turn: the phase in which it stands, over the worker's queues.
 
-ghost use Rattle.std.specs.Prelude.{◌≡◌, ℕ, ◌+◌, ◌-◌, ◌^◌, ◌<◌, ◌≤◌, ◌==◌, ◌∷◌, true, length, IsTrue};
+ghost use Rattle.std.specs.Prelude.{◌≡◌, ℕ, ◌+◌, ◌*◌, ◌-◌, ◌^◌, ◌<◌, ◌≤◌, ◌==◌, ◌∷◌, true, length, IsTrue, None};
 ghost use Rattle.step_tables.specs.Sound.{is_sound};
 ghost use Rattle.std.specs.List.{range_with_len};
 ghost use Rattle.queue_model.specs.Classes.{spent};
@@ -12,7 +12,8 @@ ghost use Rattle.turn_steps.specs.Times.{times, listed};
 ghost use Rattle.turn_steps.specs.Left.{stage, runs, asked, at_acts, at_gets, at_runs, at_sweep, at_wakes, acted, begun, draws_if, draws_in, draws_now, drew, dropped_as, handed, heard, next_in, returned, run_begun, spent_in, take_call, taken, waked};
 ghost use Rattle.turn_steps.specs.Has.{caller};
 ghost use Rattle.thread_loop.specs.Queues.{Fits, Grows, book_of, made_of, next_of, quotas_of};
-ghost use Rattle.thread_loop.specs.Turns.{onward_of, row_of, actions_from, stage_in, book_now, HasRow, TurnFits, Steps, take_of, drawn_run, NamesTasks, IsGiven, KnowsRow};
+ghost use Rattle.run_model.specs.Standing.{turn_ended};
+ghost use Rattle.thread_loop.specs.Turns.{unsettled, ended, onward_of, row_of, actions_from, stage_in, book_now, HasRow, TurnFits, Steps, take_of, drawn_run, NamesTasks, IsGiven, KnowsRow};
 
 use crate::lookups::{call_of, groups, has_reasons, home_of, is_killed, is_rest, row_at, target};
 use crate::queues::{NextRun, Queues, Quotas};
@@ -232,6 +233,24 @@ impl Turn {
     {
         self.tick = now;
         self.to_gets(script, 0);
+    }
+
+    /// Ends a turn that asks for no call any more: from version 2 on its timers are settled at its tick.
+    pub(crate) fn end(&mut self, script: &Script)
+        requires fits { TurnFits script.now self.old }
+        requires over { asked script.now (stage_in script.now self.old) ≡ None }
+        requires room { made_of self.old.queues + length script.now.tasks < 2 ^ 63 }
+        ensures stage { stage_in script.now self.new ≡ ended script.now self.old.tick (stage_in script.now self.old) }
+        ensures book { book_now self.new ≡ turn_ended script.now self.old.tick (book_now self.old) }
+        ensures over { asked script.now (stage_in script.now self.new) ≡ None }
+        ensures fits { TurnFits script.now self.new }
+        ensures tick { self.new.tick ≡ self.old.tick }
+        ensures room { made_of self.new.queues + 2 ^ 13 * unsettled (book_now self.new).wait ≤ made_of self.old.queues + 2 ^ 13 * unsettled (book_now self.old).wait }
+    {
+        if script.version() < 2 {
+            return;
+        }
+        self.queues.settle(script, self.tick);
     }
 
     /// Goes on to the get of a group, or after the last one to the sweep.

@@ -13,11 +13,11 @@ ghost use Rattle.eb32_core.specs.Forest.{seen_of};
 ghost use Rattle.wait_queue.specs.Timers.{first_key, wait_item};
 ghost use Rattle.run_queue.specs.Runners.{now_of, run_item};
 ghost use Rattle.run_model.specs.Tables.{home_of, row_number};
-ghost use Rattle.run_model.specs.Standing.{blank_book};
+ghost use Rattle.run_model.specs.Standing.{blank_book, turn_ended};
 ghost use Rattle.turn_steps.specs.Left.{asked, begun, heard, drew, draws_now};
 ghost use Rattle.turn_steps.specs.Has.{CanGive, caller};
 ghost use Rattle.thread_loop.specs.Boards.{log_of, IsSame};
-ghost use Rattle.thread_loop.specs.Turns.{drawn_run};
+ghost use Rattle.thread_loop.specs.Turns.{drawn_run, ended};
 ghost use Rattle.thread_loop.specs.Workers.{number_of, tick_of, turns_of, takes_of, book_at_tick, stage_of, Fits, RowsFit, is_taken, body_of, takes_after, TellsTakes};
 
 use crate::lookups::row_at;
@@ -154,6 +154,24 @@ impl Worker {
             self.rows[task] = row_at(script, id, self.rows[task]).next;
             self.takes[task] += 1;
         }
+    }
+
+    /// Ends the turn, of which no call is left: in version 2 of the script the timers are settled at its tick, and
+    /// in version 1 nothing changes.
+    pub fn end_turn(&mut self, script: &Script)
+        requires fits { Fits script.now self.old }
+        requires over { asked script.now (stage_of script.now self.old) ≡ None }
+        ensures book { book_at_tick (tick_of self.old) self.new ≡ turn_ended script.now (tick_of self.old) (book_at_tick (tick_of self.old) self.old) }
+        ensures stage { stage_of script.now self.new ≡ ended script.now (tick_of self.old) (stage_of script.now self.old) }
+        ensures over { asked script.now (stage_of script.now self.new) ≡ None }
+        ensures fits { Fits script.now self.new }
+        ensures log { log_of self.new ≡ log_of self.old }
+        ensures number { number_of self.new ≡ number_of self.old }
+        ensures tick { tick_of self.new ≡ tick_of self.old }
+        ensures turns { turns_of self.new ≡ turns_of self.old }
+        ensures takes { (i : ℕ) → takes_of self.new i ≡ takes_of self.old i }
+    {
+        self.turn.end(script);
     }
 
     /// Whether a shared task may be drawn now.

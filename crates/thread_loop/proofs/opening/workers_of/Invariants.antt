@@ -1,6 +1,6 @@
 use Rattle.std.proofs.Common.{◌≡◌, ◌<◌, ℕ, length, map, replicate, slice_index_or}
 use Rattle.run_model.specs.Standing.{opening, blank_book}
-use Rattle.thread_loop.specs.Engines.{IsIdle, book_now}
+use Rattle.thread_loop.specs.Idle.{IsIdle, book_now}
 use Rattle.thread_loop.specs.declared.worker.Worker.{Worker}
 use Rattle.thread_loop.proofs.opening.workers_of.Given as goal
 

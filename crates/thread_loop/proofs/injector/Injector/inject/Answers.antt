@@ -6,7 +6,7 @@ use Rattle.task_machine.specs.Logged.{Logged}
 use Rattle.task_machine.specs.declared.calls.Entry.{Entry}
 use Rattle.turn_steps.specs.Ranges.{AreSound}
 use Rattle.turn_steps.proofs.Fit.{IsFit-sound}
-use Rattle.thread_loop.specs.Engines.{actions_all}
+use Rattle.thread_loop.specs.Events.{actions_all}
 use Rattle.thread_loop.specs.BoardTurns.{AtActions, HasInjected}
 use Rattle.thread_loop.proofs.BoardRounds.{at-begun, injected-none, injected-trans, injects-all, free-over}
 use Rattle.thread_loop.proofs.Events.{events-at, none-left}

@@ -1,5 +1,5 @@
 use Rattle.std.proofs.Common.{◌≡◌, ◌+◌, ◌*◌, ◌≤◌, drop, length}
-use Rattle.thread_loop.specs.Engines.{actions_all}
+use Rattle.thread_loop.specs.Events.{actions_all}
 use Rattle.thread_loop.specs.BoardTurns.{AtActions, HasInjected}
 use Rattle.thread_loop.proofs.injector.Injector.inject.Given as goal
 

@@ -1,5 +1,5 @@
 use Rattle.std.proofs.Common.{◌≡◌, ◌<◌, ℕ, length, slice_index_or}
-use Rattle.thread_loop.specs.Engines.{book_now}
+use Rattle.thread_loop.specs.Idle.{book_now}
 use Rattle.thread_loop.specs.declared.worker.Worker.{Worker}
 use Rattle.thread_loop.proofs.plant.Plant.has_no_timer.Given as goal
 

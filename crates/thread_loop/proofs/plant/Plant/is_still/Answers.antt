@@ -10,15 +10,15 @@ use Rattle.thread_loop.proofs.plant.Plant.is_still.Goals as goal
 pub returns-then-not-is_still_word : goal.returns-then-not-is_still_word
 returns-then-not-is_still_word c =
     let p = c.args.self.now in
-    let ready = c.requires.2 in
+    let holds = c.requires.1 in
     let k = c.loop-number.number in
     let within = c.tasks-number-end.ensures in
-    let word = sym (still-word c.requires.0 c.requires.1 k p ready (omega (arith, c.loop-number-test.true))) ∙ ap (λ w. is_still_seen (seen_in w)) (sym c.task.ensures) ∙ sym c.is_still_word.ensures ∙ c.if-not-is_still_word.true in
-    sym (one_fails (λ t. is_still_at t.place) (standing_of p).state.tasks resting k (omega (arith, c.loop-number-test.true, ready.holds.stands.count)) word)
+    let word = sym (still-word c.requires.0 k p holds (omega (arith, c.loop-number-test.true))) ∙ ap (λ w. is_still_seen (seen_in w)) (sym c.task.ensures) ∙ sym c.is_still_word.ensures ∙ c.if-not-is_still_word.true in
+    sym (one_fails (λ t. is_still_at t.place) (standing_of p).state.tasks resting k (omega (arith, c.loop-number-test.true, holds.stands.count)) word)
 
 pub returns : goal.returns
 returns c =
     let p = c.args.self.now in
-    let ready = c.requires.2 in
+    let holds = c.requires.1 in
     let within = c.tasks-number-end.ensures in
-    sym (all_hold (λ t. is_still_at t.place) (standing_of p).state.tasks resting (λ k lt. sym (still-word c.requires.0 c.requires.1 k p ready (omega (arith, ready.holds.stands.count))) ∙ c.loop-number.invariant.still k (omega (arith, c.loop-number-test.false, ready.holds.stands.count))))
+    sym (all_hold (λ t. is_still_at t.place) (standing_of p).state.tasks resting (λ k lt. sym (still-word c.requires.0 k p holds (omega (arith, holds.stands.count))) ∙ c.loop-number.invariant.still k (omega (arith, c.loop-number-test.false, holds.stands.count))))

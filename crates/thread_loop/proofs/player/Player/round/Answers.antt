@@ -1,4 +1,5 @@
-use Rattle.std.proofs.Common.{ap, sym, ◌∙◌, arith}
+use Rattle.std.proofs.Common.{◌≡◌, ℕ, ap, sym, subst, ◌∙◌, arith}
+use Rattle.run_model.specs.Standing.{next_tick}
 use Rattle.history_weave.specs.Places.{entry_count}
 use Rattle.thread_loop.specs.Plants.{next_round, standing_of}
 use Rattle.thread_loop.proofs.Playing.{takes-left, has-merge, made, machine-led, told-merged}
@@ -29,6 +30,13 @@ returns-clause-made g c =
     let p1 = c.begin_round.new.self in
     let ended = c.end_round.ensures.ended (next_round c.args.round p1) c.round.ensures.run in
     made c.args.script.now c.args.round c.args.self.now.plant p1 c.end_round.new.self c.args.self.now.machine c.logs-2.result.now c.weave.new.self.entries ended c.begin_round.ensures.standing c.begin_round.ensures.tick c.requires.ready.machine c.logs-2.ensures c.weave.ensures.merged
+
+pub returns-clause-next : goal.returns-clause-next
+returns-clause-next g c =
+    let p1 = c.begin_round.new.self in
+    let p3 = c.end_round.new.self in
+    let ended = c.end_round.ensures.ended (next_round c.args.round p1) c.round.ensures.run in
+    subst (λ (T : ℕ). p3.tick ≡ next_tick c.args.script.now c.args.round T (standing_of p3)) c.begin_round.ensures.tick ended.tick
 
 pub returns-clause-ready : goal.returns-clause-ready
 returns-clause-ready g c =

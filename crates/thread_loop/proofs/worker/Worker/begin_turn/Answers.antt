@@ -2,9 +2,9 @@ use Rattle.std.proofs.Common.{◌≡◌, ◌≤◌, arith, sym, subst}
 use Rattle.turn_steps.specs.Left.{Stage, begun}
 use Rattle.turn_steps.specs.Counts.{calls_left}
 use Rattle.thread_loop.specs.Queues.{book_of, made_of}
-use Rattle.thread_loop.specs.Turns.{NamesTasks, stage_in}
+use Rattle.thread_loop.specs.Turns.{NamesTasks, stage_in, unsettled}
 use Rattle.thread_loop.specs.Workers.{Fits, turns_of}
-use Rattle.thread_loop.proofs.Workers.{begun_names, begun_calls, room_begun}
+use Rattle.thread_loop.proofs.Workers.{begun_names, begun_calls, unsettled-le, room_begun}
 use Rattle.thread_loop.proofs.worker.Worker.begin_turn.Goals as goal
 
 pub returns-clause-fits : goal.returns-clause-fits
@@ -23,5 +23,5 @@ returns-clause-fits c =
       rows = c.requires.fits.rows;
       number = c.requires.fits.number;
       turns = omega arith;
-      room = room_begun (made_of c.args.self.now.turn.queues) (made_of c.begin.new.self.queues) (calls_left c.args.script.now.depth (stage_in c.args.script.now c.args.self.now.turn).left (stage_in c.args.script.now c.args.self.now.turn).book) _ c.args.self.now.turns c.begin.ensures.grows.bound calls c.requires.fits.room;
+      room = room_begun (made_of c.args.self.now.turn.queues) (made_of c.begin.new.self.queues) (calls_left c.args.script.now.depth (stage_in c.args.script.now c.args.self.now.turn).left (stage_in c.args.script.now c.args.self.now.turn).book) _ (unsettled (stage_in c.args.script.now c.args.self.now.turn).book.wait) _ c.args.self.now.turns c.begin.ensures.grows.bound calls (unsettled-le (stage_in c.args.script.now c.begin.new.self).book.wait) c.requires.fits.room;
     }

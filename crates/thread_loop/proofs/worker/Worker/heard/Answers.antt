@@ -3,9 +3,9 @@ use Rattle.turn_steps.specs.Left.{Stage}
 use Rattle.turn_steps.specs.Has.{caller}
 use Rattle.turn_steps.specs.Counts.{calls_left}
 use Rattle.thread_loop.specs.Queues.{made_of}
-use Rattle.thread_loop.specs.Turns.{NamesTasks, stage_in}
+use Rattle.thread_loop.specs.Turns.{NamesTasks, stage_in, unsettled}
 use Rattle.thread_loop.specs.Workers.{Fits, number_of, tick_of, stage_of, takes_of}
-use Rattle.thread_loop.proofs.Workers.{taken_in, heard_names, heard_calls, room_after, row_known, takes_few}
+use Rattle.thread_loop.proofs.Workers.{taken_in, heard_names, heard_calls, unsettled-le, room_after, row_known, takes_few}
 use Rattle.thread_loop.proofs.worker.Worker.heard.Goals as goal
 
 pub row_to_take-row-requires : goal.row_to_take-row-requires
@@ -41,5 +41,5 @@ returns-clause-fits c =
       rows = c.count.ensures.rows;
       number = c.requires.fits.number;
       turns = c.requires.fits.turns;
-      room = room_after (made_of c.args.self.now.turn.queues) (made_of c.heard.new.self.queues) _ _ (c.args.self.now.turns * 2 ^ 31) c.heard.ensures.steps.grows.bound calls c.requires.fits.room;
+      room = room_after (made_of c.args.self.now.turn.queues) (made_of c.heard.new.self.queues) _ _ (unsettled (stage_in c.args.script.now c.args.self.now.turn).book.wait) _ (c.args.self.now.turns * 2 ^ 31) c.heard.ensures.steps.grows.bound calls (unsettled-le (stage_in c.args.script.now c.heard.new.self).book.wait) c.requires.fits.room;
     })

@@ -1,7 +1,7 @@
 use Rattle.std.proofs.Common.{◌≡◌, ◌≤◌, ℕ}
 use Rattle.turn_steps.specs.Has.{drawn_by}
 use Rattle.thread_loop.specs.Workers.{stage_of}
-use Rattle.thread_loop.specs.Shops.{calls_in}
+use Rattle.thread_loop.specs.Workers.{calls_in}
 use Rattle.thread_loop.specs.BoardTurns.{OnBoard, HasCalled}
 use Rattle.thread_loop.proofs.worker.Worker.make_calls.Given as goal
 
