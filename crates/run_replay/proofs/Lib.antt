@@ -1,0 +1,13 @@
+pub mod Facts
+pub mod Injections
+pub mod Judged
+pub mod Limits
+pub mod Making
+pub mod ReadLines
+pub mod Opened
+pub mod Resting
+pub mod Rounds
+pub mod Served
+pub mod SharedBoxes
+pub mod Turning
+pub mod Watching
