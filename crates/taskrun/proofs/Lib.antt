@@ -6,3 +6,7 @@ pub mod RunTexts
 pub mod Played
 pub mod Served
 pub mod Counted
+pub mod Determined
+pub mod InputParts
+pub mod TextLengths
+pub mod Replayed

@@ -6,27 +6,36 @@ use Rattle.taskrun.specs.declared.status.Status.TheVariants.{NoMemory}
 use Rattle.text_lines.specs.Pieces.{Word}
 use Rattle.command_line.specs.Commands.{command_of}
 use Rattle.command_line.proofs.Sizes.{sizes_in_range}
+use Rattle.thread_loop.specs.declared.crew.Kept.{Kept}
 use Rattle.taskrun.specs.Answers.{AnswersTo, ExpectedOf, HasSize}
 
-told_none : (source before : Option (List ℕ)) → AnswersTo (Some Run) source before before NoMemory
-told_none None before = tt
-told_none (Some bytes) before = inl refl
+run_began : (source before : Option (List ℕ)) (told tells : Option (List Kept)) → AnswersTo (Some Run) source before before told tells NoMemory
+run_began None before told tells = tt
+run_began (Some bytes) before told tells = inl refl
+
+replay_began : (source before : Option (List ℕ)) → AnswersTo (Some Replay) source before before None None NoMemory
+replay_began None before = tt
+replay_began (Some bytes) before = refl
 
 -- want of memory before anything was done
-pub memory_answers : (command : Option Command) (source before : Option (List ℕ)) → AnswersTo command source before before NoMemory
-memory_answers None source before = refl
-memory_answers (Some Run) source before = told_none source before
-memory_answers (Some Replay) source before = refl
-memory_answers (Some (Gen seed size)) source before = inl refl
+pub memory_answers : (command : Option Command) (source before : Option (List ℕ)) (told tells : Option (List Kept)) → AnswersTo command source before before told tells NoMemory
+memory_answers None source before told tells = refl
+memory_answers (Some Run) source before told tells = run_began source before told tells
+memory_answers (Some Replay) source before told tells = replay_began source before
+memory_answers (Some (Gen seed size)) source before told tells = inl refl
 
 run_none : (source : Option (List ℕ)) → ExpectedOf (Some Run) source NoMemory
 run_none None = tt
 run_none (Some bytes) = tt
 
+replay_none : (source : Option (List ℕ)) → ExpectedOf (Some Replay) source NoMemory
+replay_none None = tt
+replay_none (Some bytes) = tt
+
 pub memory_expected : (command : Option Command) (source : Option (List ℕ)) → ExpectedOf command source NoMemory
 memory_expected None source = tt
 memory_expected (Some Run) source = run_none source
-memory_expected (Some Replay) source = tt
+memory_expected (Some Replay) source = replay_none source
 memory_expected (Some (Gen seed size)) source = tt
 
 -- a script that is to be generated has a size in range

@@ -1,5 +1,6 @@
 pub mod Headline
 pub mod Summary
+pub mod Inputs
 pub mod Answers
 pub mod ErrorLines
 pub mod Arguments

@@ -1,10 +1,10 @@
 //! From the arguments of the process to an answer.
 
-ghost use Rattle.std.specs.Prelude.{◌≡◌, ◌≢◌, true, [], drop, IfOk, IfErr, IsErr, IsErrAnd};
+ghost use Rattle.std.specs.Prelude.{◌≡◌, ◌≢◌, [], drop, IfOk, IfErr, IsErr, IsErrAnd};
 ghost use Rattle.std.specs.IoError.{error_kind};
 ghost use Rattle.std.specs.Vec.Iter.{into_iter_items};
 ghost use Rattle.sched_base.specs.Streams.{Appends, AppendsFront, Rose};
-ghost use Rattle.taskrun.specs.Answers.{is_unserved, AnswersTo, ExpectedOf, IsUsage};
+ghost use Rattle.taskrun.specs.Answers.{AnswersTo, ExpectedOf, IsAmong};
 ghost use Rattle.taskrun.specs.Arguments.{command_among};
 ghost use Rattle.taskrun.specs.ErrorLines.{error_line};
 
@@ -15,6 +15,8 @@ use sched_base::{Gate, Sink, Source};
 use std::alloc::{AllocError, Global};
 use std::env::Args;
 use std::io::{self, ErrorKind};
+use std::thread::Threads;
+use thread_loop::Crew;
 
 /// The arguments behind the first one.
 fn behind_first(alloc: Global, args: Args) -> Result<Vec<String>, AllocError>
@@ -51,21 +53,23 @@ fn words_of(alloc: Global, args: io::Result<Args>) -> Result<Vec<String>, NoWord
 }
 
 /// Does what the arguments of the process ask for.
-pub fn answer<S: Source, O: Sink, E: Sink, G: Gate + Sync>(
+pub fn answer<R: Threads + Sync, S: Source, O: Sink, E: Sink, C: Crew, G: Gate + Sync>(
+    rt: &R,
     alloc: Global,
     args: io::Result<Args>,
     src: &mut S,
     out: &mut O,
     err: &mut E,
+    crew: &mut C,
     gate: &G,
 ) -> Status
-    ensures answers { IfOk args (λ all. AnswersTo (command_among (into_iter_items all)) (S.left src.old) (O.held out.old) (O.held out.new) result) }
+    ensures answers { IfOk args (λ all. AnswersTo (command_among (into_iter_items all)) (S.left src.old) (O.held out.old) (O.held out.new) (C.told crew.old) (C.told crew.new) result) }
     // Words that are no text are no command, and want of memory for them is told as that.
     ensures no_text { IfErr args (λ e. error_kind e ≢ ErrorKind.OutOfMemory → result ≡ Status.Usage) }
     ensures no_memory { IfErr args (λ e. error_kind e ≡ ErrorKind.OutOfMemory → result ≡ Status.NoMemory) }
-    ensures untouched { IfErr args (λ _. (src.new ≡ src.old) × (out.new ≡ out.old)) }
+    ensures untouched { IfErr args (λ _. (src.new ≡ src.old) × ((out.new ≡ out.old) × (crew.new ≡ crew.old))) }
     // Usage is the answer to words that are no command, unless there is no memory for them.
-    ensures unserved { IfOk args (λ all. is_unserved (command_among (into_iter_items all)) ≡ true → IsUsage result) }
+    ensures among { IfOk args (λ all. IsAmong (command_among (into_iter_items all)) result) }
     // Where no count rose, the answer is want of memory or the one that words and bytes call for.
     ensures complete { IfOk args (λ all. ¬ Rose (S.faults src.old) (S.faults src.new) → ¬ Rose (O.faults out.old) (O.faults out.new)
         → ExpectedOf (command_among (into_iter_items all)) (S.left src.old) result) }
@@ -74,7 +78,7 @@ pub fn answer<S: Source, O: Sink, E: Sink, G: Gate + Sync>(
     ensures begun { AppendsFront (E.held err.old) (E.held err.new) (error_line result) }
 {
     match words_of(alloc, args) {
-        Ok(words) => taskrun(alloc, &words, src, out, err, gate),
+        Ok(words) => taskrun(rt, alloc, &words, src, out, err, crew, gate),
         Err(NoWords::NoText) => only_told(err, Status::Usage),
         Err(NoWords::NoMemory) => only_told(err, Status::NoMemory),
     }

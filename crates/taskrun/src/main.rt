@@ -5,12 +5,18 @@
 mod arguments;
 mod counting;
 mod error_lines;
+mod inputs;
 mod pieces;
+#[cfg(test)]
+mod replay_tests;
+mod replays;
 mod rounds;
 mod status;
 mod summary;
 #[cfg(test)]
 mod tests;
+#[cfg(test)]
+mod threads;
 mod top;
 #[cfg(test)]
 mod worked;
@@ -20,15 +26,18 @@ use sched_base::{OpenGate, StdSink, StdSource};
 pub use status::Status;
 use std::env;
 use std::process::ExitCode;
+use thread_loop::ThreadCrew;
 pub use top::taskrun;
 
 fn main(rt: HostRuntime) -> ExitCode {
     let status = answer(
+        &rt,
         rt.alloc(),
         env::args(&rt),
         &mut StdSource::new(rt.stdin()),
         &mut StdSink::new(rt.stdout()),
         &mut StdSink::new(rt.stderr()),
+        &mut ThreadCrew::new(),
         &OpenGate,
     );
     ExitCode::from(status)

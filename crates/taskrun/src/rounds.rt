@@ -1,18 +1,20 @@
 //! The rounds of a run, written out one after another.
 
-ghost use Rattle.std.specs.Prelude.{◌≡◌, ℕ, ◌+◌, ◌%◌, ◌^◌, ◌<◌, ◌≤◌, ◌==◌, ◌||◌, true, false, List, Option, IsTrue, IfOk, IfErr, OnOk, OnErr};
+ghost use Rattle.std.specs.Prelude.{◌≡◌, ℕ, ◌+◌, ◌<◌, ◌≤◌, ◌==◌, ◌||◌, true, false, List, Option, IsTrue, IfOk, IfErr, OnOk, OnErr};
 ghost use Rattle.sched_base.specs.Streams.{Rose};
 ghost use Rattle.step_tables.specs.Sound.{is_sound};
 ghost use Rattle.run_model.specs.Run.{Round};
+ghost use Rattle.thread_loop.specs.declared.crew.Kept.{Kept};
 ghost use Rattle.taskrun.specs.Answers.{Wrote, WroteFront};
 ghost use Rattle.taskrun.specs.Rounds.{Plays, Makes, Adds, Underway};
 ghost use Rattle.taskrun.specs.declared.rounds.PlayError.TheVariants.{Fault, Memory};
 
 use crate::pieces::write_all;
-use sched_base::{Failed, Sink};
+use sched_base::{Failed, Gate, Sink};
 use std::alloc::{AllocError, Global};
+use std::thread::Threads;
 use step_tables::Script;
-use thread_loop::Engine;
+use thread_loop::{Crew, Player};
 use transcript::{write_end, write_head, write_round};
 
 /// From how many bytes on the text of rounds is written out.
@@ -43,45 +45,64 @@ impl From<AllocError> for PlayError {
     }
 }
 
-/// Runs a script, and writes the text of its run round by round. After an error the sink has a first part
-/// of the text of such a run.
-pub fn play_out<O: Sink>(alloc: Global, script: &Script, out: &mut O) -> Result<(), PlayError>
-    ensures ok { OnOk result (Wrote (O.held out.old) (O.held out.new) script.now) }
+/// Runs a script, its rounds made by a crew, and writes the text of its run round by round. After an error the sink has
+/// a first part of the text of such a run.
+pub fn play_out<R: Threads + Sync, O: Sink, C: Crew, G: Gate + Sync>(
+    rt: &R,
+    alloc: Global,
+    script: &Script,
+    out: &mut O,
+    crew: &mut C,
+    gate: &G,
+) -> Result<(), PlayError>
+    ensures ok { OnOk result (Wrote (O.held out.old) (O.held out.new) (C.told crew.old) (C.told crew.new) script.now) }
     ensures err { OnErr result (WroteFront (O.held out.old) (O.held out.new) script.now) }
     ensures fault { IfErr result (λ e. e ≡ PlayError.Fault → Rose (O.faults out.old) (O.faults out.new)) }
     ensures counted { O.faults out.old ≤ O.faults out.new }
 {
-    let mut tick = script.start();
-    let mut engine = Engine::new(alloc, script)?;
+    let rounds = script.rounds();
+    let mut player = Player::new(alloc, script)?;
     let mut text = Vec::new(alloc);
     write_head(&mut text)?;
-    for round in 0..script.rounds() {
-        if play_round(&mut engine, script, &mut text, out, round, tick)? {
+    for round in 0..rounds {
+        if play_round(
+            rt,
+            alloc,
+            &mut player,
+            script,
+            &mut text,
+            out,
+            crew,
+            round,
+            gate,
+        )? {
             return Ok(());
         }
-        tick = tick.wrapping_add(script.step());
     }
     unreachable!()
 }
 
 /// Makes a round and puts its text behind what is in the buffer, with the end line where the run is over
 /// then. Writes the buffer out where it is full or the run is over. Says whether it is.
-fn play_round<O: Sink>(
-    engine: &mut Engine,
+fn play_round<R: Threads + Sync, O: Sink, C: Crew, G: Gate + Sync>(
+    rt: &R,
+    alloc: Global,
+    player: &mut Player,
     script: &Script,
     text: &mut Vec<u8>,
     out: &mut O,
+    crew: &mut C,
     round: u32,
-    tick: u32,
+    gate: &G,
 ) -> Result<bool, PlayError>
-    requires { (before : Option (List ℕ)) × Underway script.now before (O.held out.old) text.old.items round tick engine.old }
-    ensures over { IfOk result (λ over. (before : Option (List ℕ)) → Underway script.now before (O.held out.old) text.old.items round tick engine.old → over ≡ true → Wrote before (O.held out.new) script.now) }
-    ensures more { IfOk result (λ over. (before : Option (List ℕ)) → Underway script.now before (O.held out.old) text.old.items round tick engine.old → over ≡ false → Underway script.now before (O.held out.new) text.new.items (round + 1) ((tick + script.now.step) % 2 ^ 32) engine.new) }
-    ensures err { OnErr result ((before : Option (List ℕ)) → Underway script.now before (O.held out.old) text.old.items round tick engine.old → WroteFront before (O.held out.new) script.now) }
+    requires under { (before : Option (List ℕ)) × (told : Option (List Kept)) × Underway script.now before (O.held out.old) told (C.told crew.old) text.old.items round player.old }
+    ensures over { IfOk result (λ over. (before : Option (List ℕ)) (told : Option (List Kept)) → Underway script.now before (O.held out.old) told (C.told crew.old) text.old.items round player.old → over ≡ true → Wrote before (O.held out.new) told (C.told crew.new) script.now) }
+    ensures more { IfOk result (λ over. (before : Option (List ℕ)) (told : Option (List Kept)) → Underway script.now before (O.held out.old) told (C.told crew.old) text.old.items round player.old → over ≡ false → Underway script.now before (O.held out.new) told (C.told crew.new) text.new.items (round + 1) player.new) }
+    ensures err { OnErr result ((before : Option (List ℕ)) (told : Option (List Kept)) → Underway script.now before (O.held out.old) told (C.told crew.old) text.old.items round player.old → WroteFront before (O.held out.new) script.now) }
     ensures fault { IfErr result (λ e. e ≡ PlayError.Fault → Rose (O.faults out.old) (O.faults out.new)) }
     ensures counted { O.faults out.old ≤ O.faults out.new }
 {
-    let over = add_round(engine, script, text, round, tick)?;
+    let over = add_round(rt, alloc, player, script, text, crew, round, gate)?;
     if over || FULL <= text.len() {
         write_all(out, text)?;
         text.clear();
@@ -90,19 +111,23 @@ fn play_round<O: Sink>(
 }
 
 /// Makes a round and appends its text, and the end line where the run is over then. Says whether it is.
-fn add_round(
-    engine: &mut Engine,
+fn add_round<R: Threads + Sync, C: Crew, G: Gate + Sync>(
+    rt: &R,
+    alloc: Global,
+    player: &mut Player,
     script: &Script,
     text: &mut Vec<u8>,
+    crew: &mut C,
     round: u32,
-    tick: u32,
+    gate: &G,
 ) -> Result<bool, AllocError>
-    requires { (rounds : List Round) × Plays script.now rounds round tick engine.old }
-    ensures added { IfOk result (λ over. Adds script.now round tick engine.old engine.new text.old.items text.new.items over) }
+    requires plays { (rounds : List Round) × Plays script.now rounds round player.old }
+    ensures added { IfOk result (λ over. Adds script.now round player.old player.new (C.told crew.old) (C.told crew.new) text.old.items text.new.items over) }
     ensures sound { IsTrue (is_sound script.now) }
 {
-    let after = make_round(engine, script, round, tick)?;
-    write_round(text, round, tick, engine.entries())?;
+    let tick = player.tick();
+    let after = make_round(rt, alloc, player, script, crew, round, gate)?;
+    write_round(text, round, tick, player.entries())?;
     if after.over {
         write_end(text, after.rest, round)?;
     }
@@ -118,20 +143,23 @@ pub(crate) struct AfterRound {
     pub over: bool,
 }
 
-/// Makes a round of a script, whose entries the engine has then.
-pub(crate) fn make_round(
-    engine: &mut Engine,
+/// Makes a round of a script by a crew, whose entries the player has then.
+pub(crate) fn make_round<R: Threads + Sync, C: Crew, G: Gate + Sync>(
+    rt: &R,
+    alloc: Global,
+    player: &mut Player,
     script: &Script,
+    crew: &mut C,
     round: u32,
-    tick: u32,
+    gate: &G,
 ) -> Result<AfterRound, AllocError>
-    requires { (rounds : List Round) × Plays script.now rounds round tick engine.old }
-    ensures made { IfOk result (λ after. Makes script.now round tick engine.old engine.new after) }
+    requires plays { (rounds : List Round) × Plays script.now rounds round player.old }
+    ensures made { IfOk result (λ after. Makes script.now round player.old player.new (C.told crew.old) (C.told crew.new) after) }
     ensures sound { IsTrue (is_sound script.now) }
 {
     let rounds = script.rounds();
-    engine.round(script, round, tick)?;
-    let rest = engine.is_at_rest(script, round);
+    player.round(rt, alloc, script, crew, round, gate)?;
+    let rest = player.is_at_rest(script, round);
     let over = is_over(rest, round, rounds);
     Ok(AfterRound { rest, over })
 }

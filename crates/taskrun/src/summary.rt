@@ -12,41 +12,54 @@ use crate::counting::Counts;
 use crate::pieces::write_all;
 use crate::rounds::{PlayError, make_round};
 use itoa::Buffer;
-use sched_base::Sink;
+use sched_base::{Gate, Sink};
 use std::alloc::{AllocError, Global};
+use std::thread::Threads;
 use step_tables::Script;
 use text_lines::put_bytes;
-use thread_loop::Engine;
+use thread_loop::{Crew, Player};
 use transcript::write_end;
 
-/// Runs a script, and writes the summary of the run. After an error the sink has a first part of the
-/// summary of such a run.
-pub(crate) fn sum_up<O: Sink>(alloc: Global, script: &Script, out: &mut O) -> Result<(), PlayError>
-    ensures ok { OnOk result (WroteSummary (O.held out.old) (O.held out.new) script.now) }
+/// Runs a script, its rounds made by a crew, and writes the summary of the run. After an error the sink has a first part
+/// of the summary of such a run.
+pub(crate) fn sum_up<R: Threads + Sync, O: Sink, C: Crew, G: Gate + Sync>(
+    rt: &R,
+    alloc: Global,
+    script: &Script,
+    out: &mut O,
+    crew: &mut C,
+    gate: &G,
+) -> Result<(), PlayError>
+    ensures ok { OnOk result (WroteSummary (O.held out.old) (O.held out.new) (C.told crew.old) (C.told crew.new) script.now) }
     ensures err { OnErr result (WroteSummaryFront (O.held out.old) (O.held out.new) script.now) }
     ensures fault { IfErr result (λ e. e ≡ PlayError.Fault → Rose (O.faults out.old) (O.faults out.new)) }
     ensures counted { O.faults out.old ≤ O.faults out.new }
 {
-    let text = summary(alloc, script)?;
+    let text = summary(rt, alloc, script, crew, gate)?;
     write_all(out, &text)?;
     Ok(())
 }
 
-/// Runs a script, and gives the summary of the run.
-fn summary(alloc: Global, script: &Script) -> Result<Vec<u8>, AllocError>
-    ensures summary { IfOk result (λ text. IsSummary script.now text.items) }
+/// Runs a script, its rounds made by a crew, and gives the summary of the run.
+fn summary<R: Threads + Sync, C: Crew, G: Gate + Sync>(
+    rt: &R,
+    alloc: Global,
+    script: &Script,
+    crew: &mut C,
+    gate: &G,
+) -> Result<Vec<u8>, AllocError>
+    ensures summary { IfOk result (λ text. IsSummary script.now (C.told crew.old) (C.told crew.new) text.items) }
     ensures sound { IsTrue (is_sound script.now) }
 {
-    let mut tick = script.start();
-    let mut engine = Engine::new(alloc, script)?;
+    let rounds = script.rounds();
+    let mut player = Player::new(alloc, script)?;
     let mut counts = Counts::NONE;
-    for round in 0..script.rounds() {
-        let after = make_round(&mut engine, script, round, tick)?;
-        counts.add(engine.entries());
+    for round in 0..rounds {
+        let after = make_round(rt, alloc, &mut player, script, crew, round, gate)?;
+        counts.add(player.entries());
         if after.over {
             return summary_text(alloc, script.tasks().len(), round, &counts, after.rest);
         }
-        tick = tick.wrapping_add(script.step());
     }
     unreachable!()
 }

@@ -9,12 +9,14 @@ use std::env::Args;
 use std::io::{self, ErrorKind};
 use std::process::ExitCode;
 use std::test::Fail;
+use std::thread::Threads;
 use step_tables::ScriptFault;
+use thread_loop::ThreadCrew;
 use transcript::TextFault;
 
 /// How the streams of a run give and take bytes.
 #[derive(Clone, Copy)]
-struct Streams {
+pub(crate) struct Streams {
     piece_in: usize,
     fails_in: Option<u64>,
     room: usize,
@@ -22,7 +24,7 @@ struct Streams {
     fails_out: Option<u64>,
 }
 
-const CALM: Streams = Streams {
+pub(crate) const CALM: Streams = Streams {
     piece_in: 4096,
     fails_in: None,
     room: 4096,
@@ -31,11 +33,11 @@ const CALM: Streams = Streams {
 };
 
 #[derive(Drop)]
-struct Outcome {
-    code: u8,
+pub(crate) struct Outcome {
+    pub code: u8,
     exit: ExitCode,
-    text: Vec<u8>,
-    complaint: Vec<u8>,
+    pub text: Vec<u8>,
+    pub complaint: Vec<u8>,
 }
 
 fn listed(alloc: Global, fails: Option<u64>) -> Result<Vec<u64>, AllocError> {
@@ -46,7 +48,7 @@ fn listed(alloc: Global, fails: Option<u64>) -> Result<Vec<u64>, AllocError> {
     Ok(list)
 }
 
-fn words_of(alloc: Global, line: &str) -> Result<Vec<String>, AllocError> {
+pub(crate) fn words_of(alloc: Global, line: &str) -> Result<Vec<String>, AllocError> {
     let mut words = Vec::new(alloc);
     for word in line.split_whitespace() {
         words.push(String::from_str(alloc, word)?)?;
@@ -55,13 +57,20 @@ fn words_of(alloc: Global, line: &str) -> Result<Vec<String>, AllocError> {
 }
 
 /// Runs a script by the command line `taskrun` with these words.
-fn run(alloc: Global, line: &str, script: &str, streams: Streams) -> Result<Outcome, AllocError> {
+pub(crate) fn run<R: Threads + Sync>(
+    rt: &R,
+    alloc: Global,
+    line: &str,
+    script: &str,
+    streams: Streams,
+) -> Result<Outcome, AllocError> {
     let line = format!(in alloc; "taskrun {line}")?;
     let words = words_of(alloc, line.as_str())?;
-    run_by(alloc, Ok(words.into_iter()), script, streams)
+    run_by(rt, alloc, Ok(words.into_iter()), script, streams)
 }
 
-fn run_by(
+fn run_by<R: Threads + Sync>(
+    rt: &R,
     alloc: Global,
     args: io::Result<Args>,
     script: &str,
@@ -76,7 +85,16 @@ fn run_by(
     let fails_out = listed(alloc, streams.fails_out)?;
     let mut out = MemSink::new(alloc, streams.room, streams.piece_out.max(1), fails_out)?;
     let mut err = MemSink::new(alloc, 100, 100, Vec::new(alloc))?;
-    let status = answer(alloc, args, &mut src, &mut out, &mut err, &OpenGate);
+    let status = answer(
+        rt,
+        alloc,
+        args,
+        &mut src,
+        &mut out,
+        &mut err,
+        &mut ThreadCrew::new(),
+        &OpenGate,
+    );
     let text = Vec::from_slice(alloc, out.held())?;
     Ok(Outcome {
         code: status.code(),
@@ -101,9 +119,9 @@ fn answers_worked_scripts(rt: HostRuntime) -> Result<(), Fail> {
         ("run", EMPTY, 0, EMPTY_TEXT, ""),
         ("run", SELF_WAKE, 0, SELF_WAKE_TEXT, ""),
         ("run", TIMER, 0, TIMER_TEXT, ""),
+        ("run", JUMP, 0, JUMP_TEXT, ""),
         ("run", CHECK, 0, CHECK_TEXT, ""),
         ("run", TOGETHER, 0, TOGETHER_TEXT, ""),
-        ("run", APART, 0, APART_TEXT, ""),
         ("run", SHARED, 0, SHARED_TEXT, ""),
         ("run", DRAWN_AGAIN, 0, DRAWN_AGAIN_TEXT, ""),
         ("run", PUSHED_AGAIN, 0, PUSHED_AGAIN_TEXT, ""),
@@ -113,14 +131,14 @@ fn answers_worked_scripts(rt: HostRuntime) -> Result<(), Fail> {
         ("run", "taskscript 9\n", 1, "", "script: line 1: Header\n"),
         ("", FIRST, 2, "", USAGE),
         ("run now", FIRST, 2, "", USAGE),
-        ("replay", FIRST, 2, "", USAGE),
+        ("replay", FIRST, 7, "", "transcript: line 1: Truncated\n"),
         ("gen 01 5", FIRST, 2, "", USAGE),
         ("--help", FIRST, 2, "", USAGE),
         ("gen 0 1", FIRST, 0, SMALLEST_SUMMARY, ""),
         ("gen 7 64", "", 0, SUMMARY_OF_64, ""),
     ];
     for (line, script, code, text, complaint) in cases {
-        let outcome = run(rt.alloc(), line, script, CALM)?;
+        let outcome = run(&rt, rt.alloc(), line, script, CALM)?;
         assert_eq!(rt; outcome.code, code);
         assert_eq!(rt; outcome.text.as_slice(), text.as_bytes());
         assert_eq!(rt; outcome.complaint.as_slice(), complaint.as_bytes());
@@ -193,11 +211,11 @@ fn answers_become_exit_codes(rt: HostRuntime) -> Result<(), Fail> {
         ("run", FIRST, fails_out, 4),
     ];
     for (line, script, streams, code) in cases {
-        let outcome = run(rt.alloc(), line, script, streams)?;
+        let outcome = run(&rt, rt.alloc(), line, script, streams)?;
         assert!(rt; ends_with(rt.alloc(), &outcome, code)?);
     }
     for (kind, code) in [(ErrorKind::InvalidData, 2), (ErrorKind::OutOfMemory, 5)] {
-        let outcome = run_by(rt.alloc(), Err(io::Error::from(kind)), FIRST, CALM)?;
+        let outcome = run_by(&rt, rt.alloc(), Err(io::Error::from(kind)), FIRST, CALM)?;
         assert!(rt; ends_with(rt.alloc(), &outcome, code)?);
         assert!(rt; outcome.text.is_empty());
     }
@@ -213,7 +231,7 @@ fn takes_any_pieces(rt: HostRuntime) -> Result<(), Fail> {
                 piece_out,
                 ..CALM
             };
-            let outcome = run(rt.alloc(), "run", SELF_WAKE, streams)?;
+            let outcome = run(&rt, rt.alloc(), "run", SELF_WAKE, streams)?;
             assert_eq!(rt; outcome.code, 0);
             assert_eq!(rt; outcome.text.as_slice(), SELF_WAKE_TEXT.as_bytes());
         }
@@ -230,7 +248,7 @@ fn tells_failed_reads(rt: HostRuntime) -> Result<(), Fail> {
             fails_in: Some(n),
             ..CALM
         };
-        let outcome = run(rt.alloc(), "run", SELF_WAKE, streams)?;
+        let outcome = run(&rt, rt.alloc(), "run", SELF_WAKE, streams)?;
         assert_eq!(rt; outcome.code, if n < reads { 3 } else { 0 });
         assert_eq!(rt; outcome.text.is_empty(), n < reads);
     }
@@ -246,7 +264,7 @@ fn tells_failed_writes(rt: HostRuntime) -> Result<(), Fail> {
             fails_out: Some(n),
             ..CALM
         };
-        let outcome = run(rt.alloc(), "run", SELF_WAKE, streams)?;
+        let outcome = run(&rt, rt.alloc(), "run", SELF_WAKE, streams)?;
         let whole = outcome.text.len() == SELF_WAKE_TEXT.len();
         assert_eq!(rt; outcome.code, if whole { 0 } else { 4 });
         assert!(rt; is_front(&outcome.text, SELF_WAKE_TEXT));
@@ -262,7 +280,7 @@ fn tells_failed_writes(rt: HostRuntime) -> Result<(), Fail> {
 #[test]
 fn fills_a_small_sink(rt: HostRuntime) -> Result<(), Fail> {
     let streams = Streams { room: 40, ..CALM };
-    let outcome = run(rt.alloc(), "run", SELF_WAKE, streams)?;
+    let outcome = run(&rt, rt.alloc(), "run", SELF_WAKE, streams)?;
     assert_eq!(rt; outcome.code, 4);
     assert_eq!(rt; outcome.text.len(), 40);
     assert!(rt; is_front(&outcome.text, SELF_WAKE_TEXT));
@@ -277,10 +295,29 @@ fn carries_bytes_over_std(rt: HostRuntime) -> Result<(), Fail> {
     let mut err = StdSink::new(Vec::<u8>::new(rt.alloc()));
     let mut src = StdSource::new(SELF_WAKE.as_bytes());
     let mut out = StdSink::new(&mut text);
-    let whole = taskrun(rt.alloc(), &words, &mut src, &mut out, &mut err, &OpenGate);
+    let mut crew = ThreadCrew::new();
+    let whole = taskrun(
+        &rt,
+        rt.alloc(),
+        &words,
+        &mut src,
+        &mut out,
+        &mut err,
+        &mut crew,
+        &OpenGate,
+    );
     let mut src = StdSource::new(SELF_WAKE.as_bytes());
     let mut out = StdSink::new(&mut small[..]);
-    let full = taskrun(rt.alloc(), &words, &mut src, &mut out, &mut err, &OpenGate);
+    let full = taskrun(
+        &rt,
+        rt.alloc(),
+        &words,
+        &mut src,
+        &mut out,
+        &mut err,
+        &mut crew,
+        &OpenGate,
+    );
     assert_eq!(rt; whole, Status::Done);
     assert_eq!(rt; text.as_slice(), SELF_WAKE_TEXT.as_bytes());
     assert_eq!(rt; full, Status::WriteFault);
@@ -288,19 +325,15 @@ fn carries_bytes_over_std(rt: HostRuntime) -> Result<(), Fail> {
     Ok(())
 }
 
-/// A ring of 100 tasks of three workers that pass a message round, and then each kills itself.
+/// A ring of 100 tasks of one worker that pass a message round, and then each kills itself.
 fn ring(alloc: Global) -> Result<String, AllocError> {
     let mut script = String::from_str(
         alloc,
-        "taskscript 1\nworkers 3\ndepth 7\nstart 0\nstep 1\nrounds 400\n",
+        "taskscript 1\nworkers 1\ndepth 7\nstart 0\nstep 1\nrounds 400\n",
     )?;
     for i in 0..100i32 {
         let init = if i == 0 { " init" } else { "" };
-        let line = format!(in alloc;
-            "task t{i} home {} nice {} rows 2{init}\n",
-            i % 3,
-            i % 5 - 2
-        )?;
+        let line = format!(in alloc; "task t{i} home 0 nice {} rows 2{init}\n", i % 5 - 2)?;
         script.push_str(line.as_str())?;
     }
     for i in 0..100 {
@@ -314,15 +347,14 @@ fn ring(alloc: Global) -> Result<String, AllocError> {
     Ok(script)
 }
 
-/// Three groups of tasks of two workers, more than may run in a turn, which wake and kill each other and
-/// have timers.
+/// Three groups of tasks of one worker, more than may run in a turn, which wake and kill each other and have timers.
 fn crowd(alloc: Global) -> Result<String, AllocError> {
     let mut script = String::from_str(
         alloc,
-        "taskscript 1\nworkers 2\ndepth 10\nstart 4294967000\nstep 20\nrounds 40\n",
+        "taskscript 1\nworkers 1\ndepth 10\nstart 4294967000\nstep 20\nrounds 40\n",
     )?;
     for i in 0..150i32 {
-        let line = format!(in alloc; "task t{i} home {} nice {} rows 2 init\n", i % 2, i % 9 - 4)?;
+        let line = format!(in alloc; "task t{i} home 0 nice {} rows 2 init\n", i % 9 - 4)?;
         script.push_str(line.as_str())?;
     }
     for i in 0..150u32 {
@@ -360,14 +392,14 @@ fn answers_larger_scripts(rt: HostRuntime) -> Result<(), Fail> {
         ..CALM
     };
     let ring = ring(rt.alloc())?;
-    let outcome = run(rt.alloc(), "run", ring.as_str(), streams)?;
+    let outcome = run(&rt, rt.alloc(), "run", ring.as_str(), streams)?;
     assert_eq!(rt; outcome.code, 0);
-    assert_eq!(rt; outcome.text.len(), 15714);
-    assert_eq!(rt; print_of(&outcome.text), 0x26d4c570e206cbc1);
+    assert_eq!(rt; outcome.text.len(), 15353);
+    assert_eq!(rt; print_of(&outcome.text), 0xf0aa5820655297dd);
     let crowd = crowd(rt.alloc())?;
-    let outcome = run(rt.alloc(), "run", crowd.as_str(), streams)?;
+    let outcome = run(&rt, rt.alloc(), "run", crowd.as_str(), streams)?;
     assert_eq!(rt; outcome.code, 0);
-    assert_eq!(rt; outcome.text.len(), 55156);
-    assert_eq!(rt; print_of(&outcome.text), 0xd00bfba51064a0d5);
+    assert_eq!(rt; outcome.text.len(), 43193);
+    assert_eq!(rt; print_of(&outcome.text), 0x4d9c3dbc4686af5c);
     Ok(())
 }

@@ -27,6 +27,24 @@ pub(crate) const TIMER: &str =
 pub(crate) const TIMER_TEXT: &str =
     "taskrun 1\nround 0 tick 4294967290\nc0 get 0 0000000000000001\nc0 take 0 queued init live 0\nc0 drop 0 runs - live 1\nround 1 tick 4294967294\nc0 get 0 0000000000000000\nround 2 tick 2\nc0 get 0 0000000000000000\nround 3 tick 6\nc0 get 0 0000000000000000\nc0 wake 0 timer rest - live 1\nc0 take 0 queued timer live 1\nc0 kill 0 runs - live 2\nc0 drop 0 runs - killed 2\nc0 retire 0 queued - killed 2\nend rest 3\n";
 
+/// The same script in version 2: its ticks jump to the timer.
+pub(crate) const JUMP: &str =
+    "taskscript 2\nworkers 1\ndepth 200\nstart 4294967290\nstep 4\nrounds 10\ntask a home 0 nice 0 rows 2 init\nrow a 0 after 10 next 1\nrow a 1 kill a next 1\nend\n";
+
+pub(crate) const JUMP_TEXT: &str =
+    "taskrun 1\nround 0 tick 4294967290\nc0 get 0 0000000000000001\nc0 take 0 queued init live 0\nc0 drop 0 runs - live 1\nround 1 tick 4\nc0 get 0 0000000000000000\nc0 wake 0 timer rest - live 1\nc0 take 0 queued timer live 1\nc0 kill 0 runs - live 2\nc0 drop 0 runs - killed 2\nc0 retire 0 queued - killed 2\nend rest 1\n";
+
+/// Two workers with a timer each, of which the second one's comes first; a jump that is shorter than a step; and an event
+/// that stops a jump.
+pub(crate) const SECOND_FIRST: &str =
+    "taskscript 2\nworkers 2\ndepth 200\nstart 1000\nstep 10\nrounds 20\ntask a home 0 nice 0 rows 2 init\ntask b home 1 nice 0 rows 2 init\nrow a 0 after 50 next 1\nrow a 1 kill a next 1\nrow b 0 after 30 next 1\nrow b 1 kill b next 1\nend\n";
+
+pub(crate) const SHORT_JUMP: &str =
+    "taskscript 2\nworkers 1\ndepth 200\nstart 1000\nstep 100\nrounds 20\ntask a home 0 nice 0 rows 2 init\nrow a 0 after 50 next 1\nrow a 1 kill a next 1\nend\n";
+
+pub(crate) const STOPPED_JUMP: &str =
+    "taskscript 2\nworkers 1\ndepth 200\nstart 1000\nstep 10\nrounds 20\ntask a home 0 nice 0 rows 2 init\ntask b home 0 nice 0 rows 1\nrow a 0 after 50 next 1\nrow a 1 kill a next 1\nrow b 0 kill b next 0\nevent 1 wake b other\nend\n";
+
 /// The first of its lines.
 pub(crate) const TIMER_CUT: &str =
     "taskscript 1\nworkers 1\ndepth 200\nstart 4294967290\nstep 4\nrounds 10\ntask a home 0 nice 0 rows 2 init\nrow a 0 after 10 next 1\n";
@@ -54,8 +72,13 @@ pub(crate) const TOGETHER_TEXT: &str =
 pub(crate) const APART: &str =
     "taskscript 1\nworkers 2\ndepth 200\nstart 0\nstep 1\nrounds 5\ntask a home 0 nice 0 rows 1 init\ntask b home 1 nice 0 rows 1\nrow a 0 wake b io kill a next 0\nrow b 0 kill b next 0\nevent 2 wake b io\nend\n";
 
-pub(crate) const APART_TEXT: &str =
-    "taskrun 1\nround 0 tick 0\nc0 get 0 0000000000000001\nc0 take 0 queued init live 0\nc0 wake 1 io rest - live 0\nc0 post 1 1\nc0 kill 0 runs - live 1\nc0 drop 0 runs - killed 1\nc0 retire 0 queued - killed 1\nc1 get 0 0000000000000002\nc1 take 1 queued io live 0\nc1 kill 1 runs - live 1\nc1 drop 1 runs - killed 1\nc1 retire 1 queued - killed 1\nround 1 tick 1\nc0 get 0 0000000000000000\nc1 get 0 0000000000000000\nround 2 tick 2\nc0 get 0 0000000000000000\nc1 get 0 0000000000000000\nc2 wake 1 io gone\nend rest 2\n";
+/// The calls of its first worker.
+pub(crate) const APART_FIRST: &str =
+    "c0 get 0 0000000000000001\nc0 take 0 queued init live 0\nc0 wake 1 io rest - live 0\nc0 post 1 1\nc0 kill 0 runs - live 1\nc0 drop 0 runs - killed 1\nc0 retire 0 queued - killed 1\nc0 get 0 0000000000000000\nc0 get 0 0000000000000000\n";
+
+/// Two tasks of two workers, each of which kills itself.
+pub(crate) const TWO_ALONE: &str =
+    "taskscript 1\nworkers 2\ndepth 200\nstart 0\nstep 1\nrounds 1\ntask a home 0 nice 0 rows 1 init\ntask b home 1 nice 0 rows 1 init\nrow a 0 kill a next 0\nrow b 0 kill b next 0\nend\n";
 
 /// Three shared tasks, drawn by nice.
 pub(crate) const SHARED: &str =
@@ -64,12 +87,20 @@ pub(crate) const SHARED: &str =
 pub(crate) const SHARED_TEXT: &str =
     "taskrun 1\nround 0 tick 0\nc0 get 0 0000000000000000\nc0 draw 2\nc0 take 2 queued init live 0\nc0 kill 2 runs - live 1\nc0 drop 2 runs - killed 1\nc0 retire 2 queued - killed 1\nc0 draw 0\nc0 take 0 queued init live 0\nc0 kill 0 runs - live 1\nc0 drop 0 runs - killed 1\nc0 retire 0 queued - killed 1\nc0 draw 1\nc0 take 1 queued init live 0\nc0 kill 1 runs - live 1\nc0 drop 1 runs - killed 1\nc0 retire 1 queued - killed 1\nend rest 0\n";
 
-/// A shared task that wakes itself, which both workers draw.
+/// The same tasks and two workers.
+pub(crate) const SHARED_BY_TWO: &str =
+    "taskscript 1\nworkers 2\ndepth 200\nstart 0\nstep 1\nrounds 5\ntask a shared nice 0 rows 1 init\ntask b shared nice 1 rows 1 init\ntask c shared nice -1 rows 1 init\nrow a 0 kill a next 0\nrow b 0 kill b next 0\nrow c 0 kill c next 0\nend\n";
+
+/// A shared task that wakes itself, which is drawn as often as a turn allows.
 pub(crate) const DRAWN_AGAIN: &str =
-    "taskscript 1\nworkers 2\ndepth 200\nstart 0\nstep 1\nrounds 3\ntask a shared nice 0 rows 1 init\nrow a 0 wake a io next 0\nend\n";
+    "taskscript 1\nworkers 1\ndepth 2\nstart 0\nstep 1\nrounds 3\ntask a shared nice 0 rows 1 init\nrow a 0 wake a io next 0\nend\n";
 
 pub(crate) const DRAWN_AGAIN_TEXT: &str =
-    "taskrun 1\nround 0 tick 0\nc0 get 0 0000000000000000\nc0 draw 0\nc0 take 0 queued init live 0\nc0 wake 0 io runs - live 1\nc0 drop 0 runs io live 1\nc0 post 0 2\nc1 get 0 0000000000000000\nc1 draw 0\nc1 take 0 queued io live 1\nc1 wake 0 io runs - live 2\nc1 drop 0 runs io live 2\nc1 post 0 2\nround 1 tick 1\nc0 get 0 0000000000000000\nc0 draw 0\nc0 take 0 queued io live 2\nc0 wake 0 io runs - live 3\nc0 drop 0 runs io live 3\nc0 post 0 2\nc1 get 0 0000000000000000\nc1 draw 0\nc1 take 0 queued io live 3\nc1 wake 0 io runs - live 4\nc1 drop 0 runs io live 4\nc1 post 0 2\nround 2 tick 2\nc0 get 0 0000000000000000\nc0 draw 0\nc0 take 0 queued io live 4\nc0 wake 0 io runs - live 5\nc0 drop 0 runs io live 5\nc0 post 0 2\nc1 get 0 0000000000000000\nc1 draw 0\nc1 take 0 queued io live 5\nc1 wake 0 io runs - live 6\nc1 drop 0 runs io live 6\nc1 post 0 2\nend limit 2\n";
+    "taskrun 1\nround 0 tick 0\nc0 get 0 0000000000000000\nc0 draw 0\nc0 take 0 queued init live 0\nc0 wake 0 io runs - live 1\nc0 drop 0 runs io live 1\nc0 post 0 1\nc0 draw 0\nc0 take 0 queued io live 1\nc0 wake 0 io runs - live 2\nc0 drop 0 runs io live 2\nc0 post 0 1\nround 1 tick 1\nc0 get 0 0000000000000000\nc0 draw 0\nc0 take 0 queued io live 2\nc0 wake 0 io runs - live 3\nc0 drop 0 runs io live 3\nc0 post 0 1\nc0 draw 0\nc0 take 0 queued io live 3\nc0 wake 0 io runs - live 4\nc0 drop 0 runs io live 4\nc0 post 0 1\nround 2 tick 2\nc0 get 0 0000000000000000\nc0 draw 0\nc0 take 0 queued io live 4\nc0 wake 0 io runs - live 5\nc0 drop 0 runs io live 5\nc0 post 0 1\nc0 draw 0\nc0 take 0 queued io live 5\nc0 wake 0 io runs - live 6\nc0 drop 0 runs io live 6\nc0 post 0 1\nend limit 2\n";
+
+/// The same task and two workers.
+pub(crate) const DRAWN_BY_TWO: &str =
+    "taskscript 1\nworkers 2\ndepth 5\nstart 0\nstep 1\nrounds 3\ntask a shared nice 0 rows 1 init\nrow a 0 wake a io next 0\nend\n";
 
 /// A tasklet that wakes itself and has runs left, beside a task that waits for the next turn.
 pub(crate) const PUSHED_AGAIN: &str =

@@ -8,7 +8,7 @@ use Rattle.sched_base.specs.Streams.{Rose}
 use Rattle.command_line.specs.declared.command.Command.{Command}
 use Rattle.command_line.specs.Commands.{command_of}
 use Rattle.taskrun.specs.declared.status.Status.TheVariants.{NoMemory}
-use Rattle.taskrun.specs.Answers.{AnswersTo, ExpectedOf, IsUsage, is_unserved}
+use Rattle.taskrun.specs.Answers.{AnswersTo, ExpectedOf, IsAmong}
 use Rattle.taskrun.specs.Arguments.{command_among}
 use Rattle.taskrun.proofs.Served.{memory_answers, memory_expected}
 use Rattle.taskrun.proofs.arguments.answer.Goals as goal
@@ -25,11 +25,11 @@ of_each P (Err e) items each = tt
 
 pub returns-in-Ok-clause-answers : goal.returns-in-Ok-clause-answers
 returns-in-Ok-clause-answers g c =
-    of_arguments (λ k. AnswersTo k (g.S.Source.left c.args.src.now) (g.O.Sink.held c.args.out.now) (g.O.Sink.held c.taskrun.new.out) c.taskrun.result) c.args.args into_iter_items c.in-Ok.words.items c.deref.result.now c.in-Ok.ensures.words c.deref.ensures.value c.taskrun.ensures.answers
+    of_arguments (λ k. AnswersTo k (g.S.Source.left c.args.src.now) (g.O.Sink.held c.args.out.now) (g.O.Sink.held c.taskrun.new.out) (g.C.Crew.told c.args.crew.now) (g.C.Crew.told c.taskrun.new.crew) c.taskrun.result) c.args.args into_iter_items c.in-Ok.words.items c.deref.result.now c.in-Ok.ensures.words c.deref.ensures.value c.taskrun.ensures.answers
 
-pub returns-in-Ok-clause-unserved : goal.returns-in-Ok-clause-unserved
-returns-in-Ok-clause-unserved g c =
-    of_arguments (λ k. is_unserved k ≡ true → IsUsage c.taskrun.result) c.args.args into_iter_items c.in-Ok.words.items c.deref.result.now c.in-Ok.ensures.words c.deref.ensures.value c.taskrun.ensures.unserved
+pub returns-in-Ok-clause-among : goal.returns-in-Ok-clause-among
+returns-in-Ok-clause-among g c =
+    of_arguments (λ k. IsAmong k c.taskrun.result) c.args.args into_iter_items c.in-Ok.words.items c.deref.result.now c.in-Ok.ensures.words c.deref.ensures.value c.taskrun.ensures.among
 
 pub returns-in-Ok-clause-complete : goal.returns-in-Ok-clause-complete
 returns-in-Ok-clause-complete g c =

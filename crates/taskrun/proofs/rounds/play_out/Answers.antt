@@ -1,31 +1,45 @@
 use Rattle.std.proofs.Common.{◌≡◌, ◌<◌, ◌++◌, ℕ, List, Option, subst, sym, ap, ◌∙◌, arith}
+use Rattle.std.proofs.lemmas.Result.{err_from_is_err_and}
 use Rattle.transcript.specs.Spelling.{head_text}
 use Rattle.taskrun.specs.Answers.{WroteFront}
 use Rattle.taskrun.specs.Rounds.{Underway}
-use Rattle.taskrun.proofs.Played.{after_error, unstarted, started, plays_firm}
+use Rattle.taskrun.proofs.Played.{after_error, unstarted, started, plays_more, rose_later}
 use Rattle.taskrun.proofs.rounds.play_out.Goals as goal
 
-pub returns-in_err-engine-clause-err : goal.returns-in_err-engine-clause-err
-returns-in_err-engine-clause-err g c = after_error _ _ (unstarted c.args.script.now (g.O.Sink.held c.args.out.now) c.start-tick.ensures.sound)
+pub returns-in_err-player-clause-err : goal.returns-in_err-player-clause-err
+returns-in_err-player-clause-err g c = after_error _ _ (unstarted c.args.script.now (g.O.Sink.held c.args.out.now) c.rounds-rounds.ensures.sound)
 
 pub returns-in_err-write_head-clause-err : goal.returns-in_err-write_head-clause-err
-returns-in_err-write_head-clause-err g c = after_error _ _ (unstarted c.args.script.now (g.O.Sink.held c.args.out.now) c.start-tick.ensures.sound)
+returns-in_err-write_head-clause-err g c = after_error _ _ (unstarted c.args.script.now (g.O.Sink.held c.args.out.now) c.rounds-rounds.ensures.sound)
 
 pub loop-round-init : goal.loop-round-init
 loop-round-init g c =
     let s = c.args.script.now in
-    let before = g.O.Sink.held c.args.out.now in
     let head : c.write_head.new.out.items ≡ head_text = c.in_ok-write_head.ensures.written ∙ ap (λ t. t ++ head_text) c.new-text.ensures.items in
     record {
-      under = subst (λ (T : ℕ). Underway s before before c.write_head.new.out.items 0 T c.in_ok-engine.engine) (sym c.start-tick.ensures.same) (started s before c.write_head.new.out.items c.in_ok-engine.engine head c.in_ok-engine.ensures.opening c.in_ok-engine.ensures.ready);
+      under = started s (g.O.Sink.held c.args.out.now) (g.C.Crew.told c.args.crew.now) c.write_head.new.out.items c.in_ok-player.player head c.in_ok-player.ensures.opening c.in_ok-player.ensures.tick c.in_ok-player.ensures.ready;
       counted = omega arith;
     }
 
 pub returns-in_err-play_round-clause-err : goal.returns-in_err-play_round-clause-err
-returns-in_err-play_round-clause-err g c = after_error _ _ (c.in_err-play_round.ensures.err (g.O.Sink.held c.args.out.now) c.loop-round.invariant.under)
+returns-in_err-play_round-clause-err g c = after_error _ _ (c.in_err-play_round.ensures.err (g.O.Sink.held c.args.out.now) (g.C.Crew.told c.args.crew.now) c.loop-round.invariant.under)
+
+pub returns-in_err-play_round-clause-fault : goal.returns-in_err-play_round-clause-fault
+returns-in_err-play_round-clause-fault g c =
+    let q = err_from_is_err_and c.from_residual-in_err-play_round.result c.from_residual-in_err-play_round.ensures.1 in
+    rw q.1 (λ fault. rose_later _ _ _ c.loop-round.invariant.counted (c.in_err-play_round.ensures.fault (sym q.2 ∙ fault)))
+
+pub returns-then-branch-clause-ok : goal.returns-then-branch-clause-ok
+returns-then-branch-clause-ok g c = c.in_ok-play_round.ensures.over (g.O.Sink.held c.args.out.now) (g.C.Crew.told c.args.crew.now) c.loop-round.invariant.under c.if-branch.true
+
+pub loop-round-preserved : goal.loop-round-preserved
+loop-round-preserved g c = record {
+  under = c.in_ok-play_round.ensures.more (g.O.Sink.held c.args.out.now) (g.C.Crew.told c.args.crew.now) c.loop-round.invariant.under c.if-branch.false;
+  counted = omega (arith, c.loop-round.invariant.counted, c.play_round.ensures.counted);
+}
 
 pub unreachable-requires : goal.unreachable-requires
 unreachable-requires g c =
     let under = c.loop-round.invariant.under in
-    let more = (plays_firm c.args.script.now under.rounds c.loop-round.round c.loop-round.tick c.loop-round.engine c.start-tick.ensures.sound under.plays).0 in
-    omega (arith, c.rounds-round-end.ensures.same)
+    let more = plays_more c.args.script.now under.rounds c.loop-round.round c.loop-round.player c.rounds-rounds.ensures.sound under.plays in
+    omega (arith, c.rounds-rounds.ensures.same)

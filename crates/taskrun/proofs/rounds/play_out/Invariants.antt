@@ -5,6 +5,6 @@ use Rattle.taskrun.proofs.rounds.play_out.Given as goal
 -- the rounds so far are made and written, but for what is in the buffer
 abbrev pub invariant-loop-round : goal.invariant-loop-round
 invariant-loop-round g l = record {
-  under : Underway l.script (g.O.Sink.held l.fn.out) (g.O.Sink.held l.out) l.text.items l.round l.tick l.engine;
+  under : Underway l.script (g.O.Sink.held l.fn.out) (g.O.Sink.held l.out) (g.C.Crew.told l.fn.crew) (g.C.Crew.told l.crew) l.text.items l.round l.player;
   counted : g.O.Sink.faults l.fn.out ≤ g.O.Sink.faults l.out;
 }

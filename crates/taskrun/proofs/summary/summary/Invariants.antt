@@ -3,4 +3,4 @@ use Rattle.taskrun.proofs.summary.summary.Given as goal
 
 -- the rounds so far are made and counted
 abbrev pub invariant-loop-round : goal.invariant-loop-round
-invariant-loop-round l = Counted l.script l.round l.tick l.engine l.counts
+invariant-loop-round g l = Counted l.script l.round l.player (g.C.Crew.told l.fn.crew) (g.C.Crew.told l.crew) l.counts
