@@ -13,7 +13,8 @@ use Rattle.history_weave.specs.declared.kinds.Kind.TheVariants as kinds
 use Rattle.history_weave.specs.Rule.{draw_of, draws_in}
 use Rattle.history_weave.specs.Kinds.{kind, look_mark, kind_mark, looks_at, gathers_at, KindNamed}
 use Rattle.history_weave.specs.Places.{entry_at, PlaceTable, place_at, none, no_log, log_at, left_of, entry_count, first_place, next_place}
-use Rattle.history_weave.specs.Indexed.{groups, tasks_of, HasShape, IsClear, IsLaidOut, draws_left, AreMarked, IsIndexed, AreNamed}
+use Rattle.history_weave.specs.Indexed.{groups, tasks_of, HasShape, HasLinkRoom, HasAsManyLinks, IsClear, IsLaidOut, draws_left, AreMarked, IsIndexed, AreNamed}
+use Rattle.history_weave.proofs.LinkMarks.{marks_enter-look, marks_enter-miss, marks_leave, mark_of_link}
 use Rattle.history_weave.proofs.NextPlaces.{drop_next, next_place-end}
 use Rattle.history_weave.proofs.Chains.{Stands, Put, Links_apart, enter-hit, enter-miss, leave-hit, leave-miss, links_kept}
 use Rattle.history_weave.proofs.KindEvents.{look-passes, NoLook, no_look-passes, get-passes, NoGather, no_get-passes, NoDraw, no_draw, draw-here, draw-others}
@@ -60,15 +61,26 @@ pub link-lt : (logs : List Logged) (x : Index) (k p : ℕ) → IsLaidOut logs x 
 link-lt logs x k p layout lk lp =
     let more = entry_count-more logs k lk in
     let whole = entry_count-whole logs (k + 1) in
-    let room = layout.room in
+    let room = layout.room.links in
     let start = layout.starts k lk in omega arith
 
+pub mark-lt : (logs : List Logged) (x : Index) (k p : ℕ) → IsLaidOut logs x → k < length logs → p < length (log_at logs k) → get_or x.starts.items k 0 + p < length x.link_marks.items
+mark-lt logs x k p layout lk lp =
+    let more = entry_count-more logs k lk in
+    let whole = entry_count-whole logs (k + 1) in
+    let room = layout.room.marks in
+    let start = layout.starts k lk in omega arith
+
+-- room for links stays
+pub same_room : (n : ℕ) (x y : Index) → HasAsManyLinks x y → HasLinkRoom n x → HasLinkRoom n y
+same_room n x y same room = record { links = rw same.links room.links; marks = rw same.marks room.marks }
+
 -- the sizes of the lists stay
-layout-next : (logs : List Logged) (x : Index) (y : Index) (k p : ℕ) → IsLaidOut logs x → HasShape (length logs) x → k < length logs → p ≤ length (log_at logs k) → y.starts.items ≡ x.starts.items → length y.links.items ≡ length x.links.items → y.next.items ≡ set x.next.items k p → IsLaidOut logs y
+layout-next : (logs : List Logged) (x : Index) (y : Index) (k p : ℕ) → IsLaidOut logs x → HasShape (length logs) x → k < length logs → p ≤ length (log_at logs k) → y.starts.items ≡ x.starts.items → HasAsManyLinks x y → y.next.items ≡ set x.next.items k p → IsLaidOut logs y
 layout-next logs x y k p layout shape lk lp starts links next =
     record {
       starts = λ j lj. rw starts (layout.starts j lj);
-      room = rw links layout.room;
+      room = same_room (entry_count logs) x y links layout.room;
       few = layout.few;
       within = λ j lj. rw next (elim (cases_eq j k) [
         | inl same ↦ rw (same, get_or-set_same x.next.items k p 0 (let n = shape.next_len in omega arith)) lp
@@ -169,8 +181,8 @@ entered-mark logs k p t saw q e s h d ne stands =
     sym (ap (λ (f : Entry). kind_mark (kind f.call f.reply)) same ∙ ap kind_mark h)
 
 -- a look is entered
-pub entered-look : (logs : List Logged) (x : Index) (k p t : ℕ) (saw : Seen) (q : Bool) (e : Entry) (u w : PlaceTable) (v : ℕ) → IsIndexed logs x → Stands (length logs) logs k p e → get_or x.next.items k 0 ≡ suc p → kind e.call e.reply ≡ kinds.Look t saw q → t < tasks_of x → v ≡ place_at x.looks t k → Replaced x.looks u t k p → Replaced x.marks w t k (look_mark saw q) → IsIndexed logs (record x { looks = u; marks = w; links = with_item x.links (get_or x.starts.items k 0 + p) v; next = with_item x.next k p })
-entered-look logs x k p t saw q e u w v ix s m h lt read put mark =
+pub entered-look : (logs : List Logged) (x : Index) (k p t : ℕ) (saw : Seen) (q : Bool) (e : Entry) (u w : PlaceTable) (v mk : ℕ) → IsIndexed logs x → Stands (length logs) logs k p e → get_or x.next.items k 0 ≡ suc p → kind e.call e.reply ≡ kinds.Look t saw q → t < tasks_of x → v ≡ place_at x.looks t k → mk ≡ place_at x.marks t k → Replaced x.looks u t k p → Replaced x.marks w t k (look_mark saw q) → IsIndexed logs (record x { looks = u; marks = w; links = with_item x.links (get_or x.starts.items k 0 + p) v; link_marks = with_item x.link_marks (get_or x.starts.items k 0 + p) mk; next = with_item x.next k p })
+entered-look logs x k p t saw q e u w v mk ix s m h lt read marked put mark =
     let apart = links_apart logs x k p ix.layout s.caller s.within in
     let cell = get_or x.starts.items k 0 + p in
     let tasks = tasks_of x in
@@ -187,9 +199,10 @@ entered-look logs x k p t saw q e u w v ix s m h lt read put mark =
         next_len = shape-put n x k p ix.shape;
         draws_len = ix.shape.draws_len;
       };
-      layout = layout-next logs x (record x { looks = u; marks = w; links = with_item x.links cell v; next = with_item x.next k p }) k p ix.layout ix.shape s.caller (let few = s.within in omega arith) refl (length-set x.links.items cell v) refl;
+      layout = layout-next logs x (record x { looks = u; marks = w; links = with_item x.links cell v; link_marks = with_item x.link_marks cell mk; next = with_item x.next k p }) k p ix.layout ix.shape s.caller (let few = s.within in omega arith) refl (record { links = length-set x.links.items cell v; marks = length-set x.link_marks.items cell mk }) refl;
       looks = rw read (enter-hit looks_at tasks n logs x.next.items x.starts.items x.looks u x.links.items k p t e ix.looks s ix.shape.next_len m lt (look-passes t saw q e h) (put-in tasks n x.looks u t k p ix.shape.look_rows ix.shape.look_columns put) apart (link-lt logs x k p ix.layout s.caller s.within));
       marked = marked-put logs x.looks x.marks u w t k p (look_mark saw q) ix.marked put mark (ix.shape.mark_rows ∙ sym ix.shape.look_rows) (ix.shape.mark_columns ∙ sym ix.shape.look_columns) (entered-mark logs k p t saw q e s h);
+      links_marked = rw marked (marks_enter-look logs x k p t saw q e ix s m h lt apart (mark-lt logs x k p ix.layout s.caller s.within));
       gets = enter-miss gathers_at (groups tasks) n logs x.next.items x.starts.items x.gets x.links.items (set x.links.items cell v) k p e ix.gets s ix.shape.next_len m (no_get-passes (kinds.Look t saw q) e h tt) (links_kept n logs x.starts.items x.links.items k p v apart);
       draws = λ i li. ix.draws i li ∙ sym (draws_left-enter logs x.next.items k p i e s ix.shape.next_len m ∙ ap (λ d. d + draws_left logs x.next.items i) (no_draw (kinds.Look t saw q) e h tt i) ∙ none_more (draws_left logs x.next.items i));
     }
@@ -213,9 +226,10 @@ entered-get logs x k p g e u v ix s m h lt read put =
         next_len = shape-put n x k p ix.shape;
         draws_len = ix.shape.draws_len;
       };
-      layout = layout-next logs x (record x { gets = u; links = with_item x.links cell v; next = with_item x.next k p }) k p ix.layout ix.shape s.caller (let w = s.within in omega arith) refl (length-set x.links.items cell v) refl;
+      layout = layout-next logs x (record x { gets = u; links = with_item x.links cell v; next = with_item x.next k p }) k p ix.layout ix.shape s.caller (let w = s.within in omega arith) refl (record { links = length-set x.links.items cell v; marks = refl }) refl;
       looks = enter-miss looks_at tasks n logs x.next.items x.starts.items x.looks x.links.items (set x.links.items cell v) k p e ix.looks s ix.shape.next_len m (no_look-passes (kinds.Get g) e h tt) (links_kept n logs x.starts.items x.links.items k p v apart);
       marked = ix.marked;
+      links_marked = marks_enter-miss logs x k p e ix s m (no_look-passes (kinds.Get g) e h tt);
       gets = rw read (enter-hit gathers_at (groups tasks) n logs x.next.items x.starts.items x.gets u x.links.items k p g e ix.gets s ix.shape.next_len m lt (get-passes g e h) (put-in (groups tasks) n x.gets u g k p ix.shape.get_rows ix.shape.get_columns put) apart (link-lt logs x k p ix.layout s.caller s.within));
       draws = λ i li. ix.draws i li ∙ sym (draws_left-enter logs x.next.items k p i e s ix.shape.next_len m ∙ ap (λ d. d + draws_left logs x.next.items i) (no_draw (kinds.Get g) e h tt i) ∙ none_more (draws_left logs x.next.items i));
     }
@@ -241,9 +255,10 @@ entered-other logs x k p e κ ix s m h no_look no_gather none_drawn =
         next_len = shape-put n x k p ix.shape;
         draws_len = ix.shape.draws_len;
       };
-      layout = layout-next logs x (record x { next = with_item x.next k p }) k p ix.layout ix.shape s.caller (let w = s.within in omega arith) refl refl refl;
+      layout = layout-next logs x (record x { next = with_item x.next k p }) k p ix.layout ix.shape s.caller (let w = s.within in omega arith) refl (record { links = refl; marks = refl }) refl;
       looks = enter-miss looks_at tasks n logs x.next.items x.starts.items x.looks x.links.items x.links.items k p e ix.looks s ix.shape.next_len m (no_look-passes κ e h no_look) (all_kept n logs x.starts.items x.links.items k p);
       marked = ix.marked;
+      links_marked = marks_enter-miss logs x k p e ix s m (no_look-passes κ e h no_look);
       gets = enter-miss gathers_at (groups tasks) n logs x.next.items x.starts.items x.gets x.links.items x.links.items k p e ix.gets s ix.shape.next_len m (no_get-passes κ e h no_gather) (all_kept n logs x.starts.items x.links.items k p);
       draws = λ i li. ix.draws i li ∙ sym (draws_left-enter logs x.next.items k p i e s ix.shape.next_len m ∙ ap (λ d. d + draws_left logs x.next.items i) (no_draw κ e h none_drawn i) ∙ none_more (draws_left logs x.next.items i));
     }
@@ -277,9 +292,10 @@ entered-draw logs x k p t n e ix s m h lt read =
         next_len = shape-put callers x k p ix.shape;
         draws_len = length-set x.draws.items t (n + 1) ∙ ix.shape.draws_len;
       };
-      layout = layout-next logs x (record x { draws = with_item x.draws t (n + 1); next = with_item x.next k p }) k p ix.layout ix.shape s.caller (let w = s.within in omega arith) refl refl refl;
+      layout = layout-next logs x (record x { draws = with_item x.draws t (n + 1); next = with_item x.next k p }) k p ix.layout ix.shape s.caller (let w = s.within in omega arith) refl (record { links = refl; marks = refl }) refl;
       looks = enter-miss looks_at tasks callers logs x.next.items x.starts.items x.looks x.links.items x.links.items k p e ix.looks s ix.shape.next_len m (no_look-passes (kinds.Draw t) e h tt) (all_kept callers logs x.starts.items x.links.items k p);
       marked = ix.marked;
+      links_marked = marks_enter-miss logs x k p e ix s m (no_look-passes (kinds.Draw t) e h tt);
       gets = enter-miss gathers_at (groups tasks) callers logs x.next.items x.starts.items x.gets x.links.items x.links.items k p e ix.gets s ix.shape.next_len m (no_get-passes (kinds.Draw t) e h tt) (all_kept callers logs x.starts.items x.links.items k p);
       draws = λ i li. elim (cases_eq i t) [
         | inl same ↦
@@ -294,8 +310,8 @@ entered-draw logs x k p t n e ix s m h lt read =
     }
 
 -- a look leaves
-pub left-look : (logs : List Logged) (x : Index) (k p t : ℕ) (saw : Seen) (q : Bool) (e : Entry) (u w : PlaceTable) (v n : ℕ) → IsIndexed logs x → Stands (length logs) logs k p e → get_or x.next.items k 0 ≡ p → kind e.call e.reply ≡ kinds.Look t saw q → t < tasks_of x → v ≡ get_or x.links.items (get_or x.starts.items k 0 + p) 0 → Replaced x.looks u t k v → Replaced x.marks w t k n → ((d : Entry) → v ≢ none → entry_at logs k v d ≡ d → n ≡ kind_mark (kind d.call d.reply)) → IsIndexed logs (record x { looks = u; marks = w; next = with_item x.next k (suc p) })
-left-look logs x k p t saw q e u w v mk ix s m h lt read put mark told =
+pub left-look : (logs : List Logged) (x : Index) (k p t : ℕ) (saw : Seen) (q : Bool) (e : Entry) (u w : PlaceTable) (v n : ℕ) → IsIndexed logs x → Stands (length logs) logs k p e → get_or x.next.items k 0 ≡ p → kind e.call e.reply ≡ kinds.Look t saw q → t < tasks_of x → v ≡ get_or x.links.items (get_or x.starts.items k 0 + p) 0 → n ≡ get_or x.link_marks.items (get_or x.starts.items k 0 + p) 0 → Replaced x.looks u t k v → Replaced x.marks w t k n → IsIndexed logs (record x { looks = u; marks = w; next = with_item x.next k (suc p) })
+left-look logs x k p t saw q e u w v mk ix s m h lt read marked put mark =
     let tasks = tasks_of x in
     let n = length logs in
     let link : Replaced x.looks u t k (get_or x.links.items (get_or x.starts.items k 0 + p) 0) = rw read at put in
@@ -311,9 +327,10 @@ left-look logs x k p t saw q e u w v mk ix s m h lt read put mark told =
         next_len = shape-put n x k (suc p) ix.shape;
         draws_len = ix.shape.draws_len;
       };
-      layout = layout-next logs x (record x { looks = u; marks = w; next = with_item x.next k (suc p) }) k (suc p) ix.layout ix.shape s.caller s.within refl refl refl;
+      layout = layout-next logs x (record x { looks = u; marks = w; next = with_item x.next k (suc p) }) k (suc p) ix.layout ix.shape s.caller s.within refl (record { links = refl; marks = refl }) refl;
       looks = leave-hit looks_at tasks n logs x.next.items x.starts.items x.looks u x.links.items k p t e ix.looks s ix.shape.next_len m lt (look-passes t saw q e h) (put-in tasks n x.looks u t k (get_or x.links.items (get_or x.starts.items k 0 + p) 0) ix.shape.look_rows ix.shape.look_columns link);
-      marked = marked-put logs x.looks x.marks u w t k v mk ix.marked put mark (ix.shape.mark_rows ∙ sym ix.shape.look_rows) (ix.shape.mark_columns ∙ sym ix.shape.look_columns) told;
+      marked = marked-put logs x.looks x.marks u w t k v mk ix.marked put mark (ix.shape.mark_rows ∙ sym ix.shape.look_rows) (ix.shape.mark_columns ∙ sym ix.shape.look_columns) (mark_of_link logs x k p t saw q e v mk ix s m h lt read marked);
+      links_marked = marks_leave logs x k p e ix s m;
       gets = leave-miss gathers_at (groups tasks) n logs x.next.items x.starts.items x.gets x.links.items k p e ix.gets s ix.shape.next_len m (no_get-passes (kinds.Look t saw q) e h tt);
       draws = λ i li. ix.draws i li ∙ draws_left-leave logs x.next.items k p i e s ix.shape.next_len m ∙ ap (λ d. d + draws_left logs (set x.next.items k (suc p)) i) (no_draw (kinds.Look t saw q) e h tt i) ∙ none_more (draws_left logs (set x.next.items k (suc p)) i);
     }
@@ -336,9 +353,10 @@ left-get logs x k p g e u v ix s m h lt read put =
         next_len = shape-put n x k (suc p) ix.shape;
         draws_len = ix.shape.draws_len;
       };
-      layout = layout-next logs x (record x { gets = u; next = with_item x.next k (suc p) }) k (suc p) ix.layout ix.shape s.caller s.within refl refl refl;
+      layout = layout-next logs x (record x { gets = u; next = with_item x.next k (suc p) }) k (suc p) ix.layout ix.shape s.caller s.within refl (record { links = refl; marks = refl }) refl;
       looks = leave-miss looks_at tasks n logs x.next.items x.starts.items x.looks x.links.items k p e ix.looks s ix.shape.next_len m (no_look-passes (kinds.Get g) e h tt);
       marked = ix.marked;
+      links_marked = marks_leave logs x k p e ix s m;
       gets = leave-hit gathers_at (groups tasks) n logs x.next.items x.starts.items x.gets u x.links.items k p g e ix.gets s ix.shape.next_len m lt (get-passes g e h) (put-in (groups tasks) n x.gets u g k (get_or x.links.items (get_or x.starts.items k 0 + p) 0) ix.shape.get_rows ix.shape.get_columns link);
       draws = λ i li. ix.draws i li ∙ draws_left-leave logs x.next.items k p i e s ix.shape.next_len m ∙ ap (λ d. d + draws_left logs (set x.next.items k (suc p)) i) (no_draw (kinds.Get g) e h tt i) ∙ none_more (draws_left logs (set x.next.items k (suc p)) i);
     }
@@ -360,9 +378,10 @@ left-other logs x k p e κ ix s m h no_look no_gather none_drawn =
         next_len = shape-put n x k (suc p) ix.shape;
         draws_len = ix.shape.draws_len;
       };
-      layout = layout-next logs x (record x { next = with_item x.next k (suc p) }) k (suc p) ix.layout ix.shape s.caller s.within refl refl refl;
+      layout = layout-next logs x (record x { next = with_item x.next k (suc p) }) k (suc p) ix.layout ix.shape s.caller s.within refl (record { links = refl; marks = refl }) refl;
       looks = leave-miss looks_at tasks n logs x.next.items x.starts.items x.looks x.links.items k p e ix.looks s ix.shape.next_len m (no_look-passes κ e h no_look);
       marked = ix.marked;
+      links_marked = marks_leave logs x k p e ix s m;
       gets = leave-miss gathers_at (groups tasks) n logs x.next.items x.starts.items x.gets x.links.items k p e ix.gets s ix.shape.next_len m (no_get-passes κ e h no_gather);
       draws = λ i li. ix.draws i li ∙ draws_left-leave logs x.next.items k p i e s ix.shape.next_len m ∙ ap (λ d. d + draws_left logs (set x.next.items k (suc p)) i) (no_draw κ e h none_drawn i) ∙ none_more (draws_left logs (set x.next.items k (suc p)) i);
     }
@@ -394,9 +413,10 @@ left-draw logs x k p t n e ix s m h lt read =
         next_len = shape-put callers x k (suc p) ix.shape;
         draws_len = length-set x.draws.items t (n - 1) ∙ ix.shape.draws_len;
       };
-      layout = layout-next logs x (record x { draws = with_item x.draws t (n - 1); next = with_item x.next k (suc p) }) k (suc p) ix.layout ix.shape s.caller s.within refl refl refl;
+      layout = layout-next logs x (record x { draws = with_item x.draws t (n - 1); next = with_item x.next k (suc p) }) k (suc p) ix.layout ix.shape s.caller s.within refl (record { links = refl; marks = refl }) refl;
       looks = leave-miss looks_at tasks callers logs x.next.items x.starts.items x.looks x.links.items k p e ix.looks s ix.shape.next_len m (no_look-passes (kinds.Draw t) e h tt);
       marked = ix.marked;
+      links_marked = marks_leave logs x k p e ix s m;
       gets = leave-miss gathers_at (groups tasks) callers logs x.next.items x.starts.items x.gets x.links.items k p e ix.gets s ix.shape.next_len m (no_get-passes (kinds.Draw t) e h tt);
       draws = λ i li. elim (cases_eq i t) [
         | inl same ↦
@@ -455,9 +475,14 @@ link-read logs x k p start v e ix l read =
     let here : v ≡ get_or x.links.items (get_or x.starts.items k 0 + p) v = rw l.first at read in
     get_or_read x.links.items (get_or x.starts.items k 0 + p) v (link-lt logs x k p ix.layout l.stands.caller l.stands.within) here 0
 
+pub mark-read : (logs : List Logged) (x : Index) (k p start v : ℕ) (e : Entry) → IsIndexed logs x → Leaves logs x k p start e → v ≡ get_or x.link_marks.items (start + p) v → v ≡ get_or x.link_marks.items (get_or x.starts.items k 0 + p) 0
+mark-read logs x k p start v e ix l read =
+    let here : v ≡ get_or x.link_marks.items (get_or x.starts.items k 0 + p) v = rw l.first at read in
+    get_or_read x.link_marks.items (get_or x.starts.items k 0 + p) v (mark-lt logs x k p ix.layout l.stands.caller l.stands.within) here 0
+
 -- where no entry is entered yet, the index tells that none is left
-pub laid_out : (logs : List Logged) (x y : Index) → entry_count logs ≤ none → entry_count logs ≤ length x.links.items → IsClear (length logs) x → y.looks ≡ x.looks → y.marks ≡ x.marks → y.gets ≡ x.gets → y.draws ≡ x.draws → y.links ≡ x.links → length y.starts.items ≡ length x.starts.items → length y.next.items ≡ length x.next.items → ((j : ℕ) → j < length logs → get_or y.starts.items j 0 ≡ entry_count (take j logs)) → ((j : ℕ) → j < length logs → get_or y.next.items j 0 ≡ length (log_at logs j)) → IsIndexed logs y
-laid_out logs x y few room clear same_looks same_marks same_gets same_draws same_links starts_len next_len starts next =
+pub laid_out : (logs : List Logged) (x y : Index) → entry_count logs ≤ none → HasLinkRoom (entry_count logs) x → IsClear (length logs) x → y.looks ≡ x.looks → y.marks ≡ x.marks → y.gets ≡ x.gets → y.draws ≡ x.draws → y.links ≡ x.links → y.link_marks ≡ x.link_marks → length y.starts.items ≡ length x.starts.items → length y.next.items ≡ length x.next.items → ((j : ℕ) → j < length logs → get_or y.starts.items j 0 ≡ entry_count (take j logs)) → ((j : ℕ) → j < length logs → get_or y.next.items j 0 ≡ length (log_at logs j)) → IsIndexed logs y
+laid_out logs x y few room clear same_looks same_marks same_gets same_draws same_links same_marked starts_len next_len starts next =
     let end : (f : Entry → Bool) (k : ℕ) → k < length logs → next_place f (log_at logs k) (get_or y.next.items k 0) ≡ none =
     λ f k lk. next_place-end f (log_at logs k) (get_or y.next.items k 0) (let e = next k lk in omega arith) in
     let none_left : (k : ℕ) → left_of logs y.next.items k ≡ [] =
@@ -479,7 +504,7 @@ laid_out logs x y few room clear same_looks same_marks same_gets same_draws same
       };
       layout = record {
         starts = starts;
-        room = rw same_links room;
+        room = record { links = rw same_links room.links; marks = rw same_marked room.marks };
         few = few;
         within = λ k lk. (let e = next k lk in omega arith);
       };
@@ -492,6 +517,7 @@ laid_out logs x y few room clear same_looks same_marks same_gets same_draws same
           let column : k < length logs = rw (← clear.shape.look_columns, ← same_looks) lk in
           absurd (ne (rw same_looks (clear.looks i k row column)))
           );
+      links_marked = λ i k p d e li lk from lp hit ne stands. absurd (let n = next k lk in omega arith);
       gets = record {
         firsts = λ g k lg lk. (let lt : g < groups (tasks_of x) = rw same_draws at lg in rw same_gets (clear.gets g k lt lk) ∙ sym (end (gathers_at g) k lk));
         linked = λ g k p e lg lk from lp hit. absurd (let n = next k lk in omega arith);

@@ -4,6 +4,7 @@ pub mod Draws
 pub mod Entering
 pub mod Futures
 pub mod KindEvents
+pub mod LinkMarks
 pub mod Lookups
 pub mod Merges
 pub mod Moves

@@ -23,9 +23,8 @@ use Rattle.history_weave.specs.Kinds.{kind, is_look, looks_at, is_get, gathers_a
 use Rattle.history_weave.specs.Places.{entry_at, place_at, none, log_at, left_of, sum_over}
 use Rattle.history_weave.specs.Indexed.{groups, tasks_of, IsIndexed, IsNextKind}
 use Rattle.history_weave.proofs.NextPlaces.{Passes, Found, found, not_found}
-use Rattle.history_weave.proofs.Chains.{Stands}
 use Rattle.history_weave.proofs.Entering.{draws-read}
-use Rattle.history_weave.proofs.KindEvents.{Events, Events-kind, look-passes, gathers-look, draw-here}
+use Rattle.history_weave.proofs.KindEvents.{Events, Events-kind, gathers-look, draw-here}
 use Rattle.history_weave.proofs.Sums.{entry_count-more, entry_count-whole, sum_over-raise, sum_over-zero, sum_over-term, sum_over-two, left_of-past}
 
 -- what decides nothing
@@ -198,13 +197,6 @@ lets-marked logs x i k saw ix li lk differs =
     any_default [] p d f lt = absurd (omega arith)
     any_default (e ∷ es) zero d f lt = refl
     any_default (e ∷ es) (suc p) d f lt = any_default es p d f (omega arith)
-
--- the next look behind one that leaves
-pub later-within : (logs : List Logged) (x : Index) (k p t : ℕ) (saw : Seen) (q : Bool) (e : Entry) (v : ℕ) → IsIndexed logs x → Stands (length logs) logs k p e → get_or x.next.items k 0 ≡ p → kind e.call e.reply ≡ kinds.Look t saw q → t < tasks_of x → v ≡ get_or x.links.items (get_or x.starts.items k 0 + p) 0 → v ≢ none → v < length (log_at logs k)
-later-within logs x k p t saw q e v ix s next h lt read ne =
-    let hit : looks_at t (entry_at logs k p e) ≡ true = rw s.entry (look-passes t saw q e h).0 in
-    let on = ix.looks.linked t k p e lt s.caller (omega arith) s.within hit in
-    (found (looks_at t) (Lets t views.Gone) (log_at logs k) (suc p) v some_entry (lets-passes t views.Gone) (sym (read ∙ on)) ne).within
 
 -- the next look of caller k tells the takes
 look-reply : (c : Call) (r : Reply) (t : ℕ) (y : Seen) (q : Bool) → kind c r ≡ kinds.Look t y q → r ≡ replies.Task y

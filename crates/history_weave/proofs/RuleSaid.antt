@@ -1,6 +1,5 @@
 -- Where what is left has a legal merge, the rule says the same as the rule in words.
-use Rattle.std.proofs.Common.{◌≡◌, ◌≢◌, ℕ, ◌⊎◌, inl, inr, Bool, true, false, refl, sym, ap, subst, ◌∙◌, arith, List, [], ◌∷◌, length}
-use Rattle.std.specs.Prelude.{◌↔◌}
+use Rattle.std.proofs.Common.{◌≡◌, ◌≢◌, ℕ, ◌⊎◌, inl, inr, Bool, false, refl, sym, ap, subst, ◌∙◌, List, ◌∷◌}
 use Rattle.std.proofs.Math.Path.{fun_ext}
 use Rattle.std.proofs.lemmas.Bool.{cases_Bool, cases_eq}
 use Rattle.sched_base.specs.declared.names.CallerId.{CallerId}
@@ -15,14 +14,14 @@ use Rattle.task_machine.specs.declared.calls.Entry.{Entry}
 use Rattle.task_machine.specs.Task.{seen_of, put}
 use Rattle.task_machine.specs.Step.{State, task_at, Allowed}
 use Rattle.task_machine.specs.History.{stepped, calls_of, IsMerge}
-use Rattle.task_machine.specs.Event.{Change, wakes, kills, takes, drops, retires, Event, apart, sees, posts, gets, misses, draws, event_at, Allows, altered, next}
+use Rattle.task_machine.specs.Event.{Change, wakes, kills, takes, Event, apart, sees, posts, gets, misses, draws, event_at, Allows, altered, next}
 use Rattle.task_machine.proofs.After.{length-after}
 use Rattle.task_machine.proofs.Events.{Allowed-split, Legal-split, task_at-stepped}
 use Rattle.history_weave.specs.declared.kinds.Kind.{Kind}
 use Rattle.history_weave.specs.declared.kinds.Kind.TheVariants as kinds
-use Rattle.history_weave.specs.Rule.{is_quiet, Lets, Holds, TellsTakes, IsLastDraw, ReadyAt, Ready}
+use Rattle.history_weave.specs.Rule.{is_quiet, Lets, Holds, ReadyAt, Ready}
 use Rattle.history_weave.specs.Kinds.{kind, look, is_look, KindGoes}
-use Rattle.history_weave.specs.InWords.{NoneSawAsIs, ChangesUnseen, IsHeldPost, IsGet, IsBelow, number, IsLowestDraw, MayGoNext, RuleIsInWords}
+use Rattle.history_weave.specs.InWords.{NoneSawAsIs, ChangesUnseen, IsLowestDraw, MayGoNext, RuleIsInWords}
 use Rattle.history_weave.proofs.Seens.{After, After-never, loud_after, quiet_same, moved-seen}
 use Rattle.history_weave.proofs.Swaps.{two_places}
 use Rattle.history_weave.proofs.KindEvents.{Events-kind, NoLook, no_look-passes, Ready-goes, goes-Ready}

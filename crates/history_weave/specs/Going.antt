@@ -7,7 +7,7 @@ use Rattle.task_machine.specs.History.{stepped}
 use Rattle.history_weave.specs.declared.index.Index.{Index}
 use Rattle.history_weave.specs.Rule.{Ready}
 use Rattle.history_weave.specs.Places.{left_of}
-use Rattle.history_weave.specs.Indexed.{tasks_of, IsIndexed, AreNamed, AreOwn}
+use Rattle.history_weave.specs.Indexed.{HasAsManyLinks, tasks_of, IsIndexed, AreNamed, AreOwn}
 use Rattle.history_weave.specs.Weaving.{CanMerge}
 
 -- index, logs and machine fit together
@@ -32,7 +32,7 @@ pub record Went (logs : List Logged) (x y : Index) (before after : List Entry) (
   pub next : y.next.items ≡ slice_set x.next.items k (slice_index x.next.items k + 1)
   pub indexed : IsIndexed logs y
   pub tasks : tasks_of y ≡ tasks_of x
-  pub links : length y.links.items ≡ length x.links.items
+  pub links : HasAsManyLinks x y
 
 -- the next entry of some caller went
 pub record SomeWent (logs : List Logged) (x y : Index) (before after : List Entry) (s t : State) : Type 0 where

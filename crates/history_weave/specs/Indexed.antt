@@ -34,6 +34,16 @@ pub record HasShape (callers : ℕ) (x : Index) : Type 0 where
   pub next_len : length x.next.items ≡ callers
   pub draws_len : length x.draws.items ≡ tasks_of x
 
+-- there are links, and marks beside them, for so many entries
+pub record HasLinkRoom (entries : ℕ) (x : Index) : Type 0 where
+  pub links : entries ≤ length x.links.items
+  pub marks : entries ≤ length x.link_marks.items
+
+-- there are as many links, and marks beside them, as there were
+pub record HasAsManyLinks (x y : Index) : Type 0 where
+  pub links : length y.links.items ≡ length x.links.items
+  pub marks : length y.link_marks.items ≡ length x.link_marks.items
+
 -- nothing is left
 pub record IsClear (callers : ℕ) (x : Index) : Type 0 where
   pub shape : HasShape callers x
@@ -45,7 +55,7 @@ pub record IsClear (callers : ℕ) (x : Index) : Type 0 where
 -- log has
 pub record IsLaidOut (logs : List Logged) (x : Index) : Type 0 where
   pub starts : (k : ℕ) → k < length logs → slice_index x.starts.items k ≡ entry_count (take k logs)
-  pub room : entry_count logs ≤ length x.links.items
+  pub room : HasLinkRoom (entry_count logs) x
   pub few : entry_count logs ≤ none
   pub within : (k : ℕ) → k < length logs → slice_index x.next.items k ≤ length (log_at logs k)
 
@@ -58,12 +68,18 @@ abbrev pub AreMarked : List Logged → PlaceTable → PlaceTable → Type 0
 AreMarked logs looks marks =
     (i k : ℕ) (e : Entry) → i < looks.rows → k < looks.columns → place_at looks i k ≢ none → entry_at logs k (place_at looks i k) e ≡ e → place_at marks i k ≡ kind_mark (kind e.call e.reply)
 
+-- beside the link of a look that is left stands the mark of the next look at the same task in that log
+abbrev pub AreLinksMarked : ℕ → List Logged → List ℕ → List ℕ → List ℕ → Type 0
+AreLinksMarked rows logs next starts marks =
+    (i k p : ℕ) (d e : Entry) → i < rows → k < length logs → slice_index next k ≤ p → p < length (log_at logs k) → looks_at i (entry_at logs k p d) ≡ true → let later = next_place (looks_at i) (log_at logs k) (suc p) in later ≢ none → entry_at logs k later e ≡ e → slice_index marks (slice_index starts k + p) ≡ kind_mark (kind e.call e.reply)
+
 -- the index tells of the logs, of which the entries are left that its own list says
 pub record IsIndexed (logs : List Logged) (x : Index) : Type 0 where
   pub shape : HasShape (length logs) x
   pub layout : IsLaidOut logs x
   pub looks : IsChain looks_at (tasks_of x) (length logs) logs x.next.items x.starts.items x.looks x.links.items
   pub marked : AreMarked logs x.looks x.marks
+  pub links_marked : AreLinksMarked (tasks_of x) logs x.next.items x.starts.items x.link_marks.items
   pub gets : IsChain gathers_at (groups (tasks_of x)) (length logs) logs x.next.items x.starts.items x.gets x.links.items
   pub draws : (i : ℕ) → i < tasks_of x → slice_index x.draws.items i ≡ draws_left logs x.next.items i
 

@@ -3,12 +3,12 @@
 ghost use Rattle.std.specs.Prelude.{◌≡◌, ◌≢◌, ℕ, ◌+◌, ◌-◌, ◌*◌, ◌/◌, ◌<◌, ◌≤◌, ◌∷◌, IsTrue, ◌↔◌, IfOk, length, slice_index, slice_set, vec_len};
 ghost use Rattle.task_machine.specs.Step.{State, task_at};
 ghost use Rattle.history_weave.specs.Rule.{Lets, Holds, TellsTakes, SawTakes};
-ghost use Rattle.history_weave.specs.Kinds.{kind, kind_mark, KindNamed, KindSeen, KindGoes};
+ghost use Rattle.history_weave.specs.Kinds.{kind, KindNamed, KindSeen, KindGoes};
 ghost use Rattle.history_weave.specs.Places.{none, log_at, left_of, entry_count, entry_at};
 ghost use Rattle.task_machine.specs.declared.calls.Entry.{Entry};
 
 use crate::kinds::{
-    Kind, holds_task, kind_of, look_mark, looks_quietly, mark_of, same_seen, saw_takes, seen_mark,
+    Kind, holds_task, kind_of, look_mark, looks_quietly, same_seen, saw_takes, seen_mark,
 };
 use crate::places::{NONE, Places};
 use sched_base::TaskId;
@@ -32,6 +32,8 @@ pub(crate) struct Index {
     /// For the entry at place p of log k, under `starts[k] + p`: the next look at the same task, or
     /// the next get of the same group, in that log.
     pub links: Vec<usize>,
+    /// Beside the link of a look: the mark of the look to which it leads.
+    pub link_marks: Vec<usize>,
     /// Under which number the links of a log begin.
     pub starts: Vec<usize>,
     /// From which place on the entries of a log are left.
@@ -39,7 +41,7 @@ pub(crate) struct Index {
 }
 
 impl Index {
-    ghost use Rattle.history_weave.specs.Indexed.{tasks_of, HasShape, IsClear, IsIndexed, IsLaidOut, AreNamed, IsNextKind};
+    ghost use Rattle.history_weave.specs.Indexed.{tasks_of, HasShape, HasAsManyLinks, HasLinkRoom, IsClear, IsIndexed, IsLaidOut, AreNamed, IsNextKind};
 
     /// An index in which nothing is left.
     pub fn new(alloc: Global, tasks: u32, callers: usize) -> Result<Index, AllocError>
@@ -60,6 +62,7 @@ impl Index {
             gets: Places::new(alloc, (tasks + GROUP - 1) / GROUP, callers)?,
             draws,
             links: Vec::new(alloc),
+            link_marks: Vec::new(alloc),
             starts,
             next,
         })
@@ -74,13 +77,14 @@ impl Index {
         ensures indexed { IsIndexed logs.now self.new }
         ensures next { self.new.next.items ≡ slice_set self.old.next.items k place }
         ensures tasks { tasks_of self.new ≡ tasks_of self.old }
-        ensures links { length self.new.links.items ≡ length self.old.links.items }
+        ensures links { HasAsManyLinks self.old self.new }
     {
         let link = self.starts[k] + place;
         self.next[k] = place;
         match kind_of(&logs[k].as_slice()[place]) {
             Kind::Look { task, seen, quiet } => {
                 self.links[link] = self.looks.at(task as usize, k);
+                self.link_marks[link] = self.marks.at(task as usize, k);
                 self.looks.set(task as usize, k, place);
                 self.marks.set(task as usize, k, look_mark(&seen, quiet));
             }
@@ -104,7 +108,7 @@ impl Index {
         ensures indexed { IsIndexed logs.now self.new }
         ensures next { self.new.next.items ≡ slice_set self.old.next.items k (slice_index self.old.next.items k + 1) }
         ensures tasks { tasks_of self.new ≡ tasks_of self.old }
-        ensures links { length self.new.links.items ≡ length self.old.links.items }
+        ensures links { HasAsManyLinks self.old self.new }
     {
         let place = self.next[k];
         let link = self.starts[k] + place;
@@ -112,8 +116,9 @@ impl Index {
         match kind_of(&logs[k].as_slice()[place]) {
             Kind::Look { task, .. } => {
                 let later = self.links[link];
+                let mark = self.link_marks[link];
                 self.looks.set(task as usize, k, later);
-                self.marks.set(task as usize, k, mark_at(logs, k, later));
+                self.marks.set(task as usize, k, mark);
             }
             Kind::Get { group } => {
                 self.gets.set(group as usize, k, self.links[link]);
@@ -211,14 +216,14 @@ impl Index {
     /// have together.
     pub fn enter_all(&mut self, logs: &[Log]) -> usize
         requires few { entry_count logs.now ≤ none }
-        requires room { entry_count logs.now ≤ length self.old.links.items }
+        requires room { HasLinkRoom (entry_count logs.now) self.old }
         requires clear { IsClear (length logs.now) self.old }
         requires named { AreNamed logs.now (tasks_of self.old) }
         ensures total { result ≡ entry_count logs.now }
         ensures indexed { IsIndexed logs.now self.new }
         ensures next { (k : ℕ) → slice_index self.new.next.items k ≡ 0 }
         ensures tasks { tasks_of self.new ≡ tasks_of self.old }
-        ensures links { length self.new.links.items ≡ length self.old.links.items }
+        ensures links { HasAsManyLinks self.old self.new }
     {
         let total = self.lay_out(logs);
         for k in 0..logs.len() {
@@ -231,13 +236,13 @@ impl Index {
     /// how many entries the logs have together.
     fn lay_out(&mut self, logs: &[Log]) -> usize
         requires few { entry_count logs.now ≤ none }
-        requires room { entry_count logs.now ≤ length self.old.links.items }
+        requires room { HasLinkRoom (entry_count logs.now) self.old }
         requires clear { IsClear (length logs.now) self.old }
         ensures total { result ≡ entry_count logs.now }
         ensures indexed { IsIndexed logs.now self.new }
         ensures next { (k : ℕ) → k < length logs.now → slice_index self.new.next.items k ≡ length (log_at logs.now k) }
         ensures tasks { tasks_of self.new ≡ tasks_of self.old }
-        ensures links { length self.new.links.items ≡ length self.old.links.items }
+        ensures links { HasAsManyLinks self.old self.new }
     {
         let mut total = 0;
         for k in 0..logs.len() {
@@ -258,24 +263,12 @@ impl Index {
         ensures indexed { IsIndexed logs.now self.new }
         ensures next { self.new.next.items ≡ slice_set self.old.next.items k 0 }
         ensures tasks { tasks_of self.new ≡ tasks_of self.old }
-        ensures links { length self.new.links.items ≡ length self.old.links.items }
+        ensures links { HasAsManyLinks self.old self.new }
     {
         for place in (0..logs[k].as_slice().len()).rev() {
             self.enter(logs, k, place);
         }
     }
-}
-
-/// The mark of the entry at a place of log k, if there is one.
-fn mark_at(logs: &[Log], k: usize, place: usize) -> usize
-    requires caller { k < length logs.now }
-    requires within { place ≢ none → place < length (log_at logs.now k) }
-    ensures { (e : Entry) → place ≢ none → entry_at logs.now k place e ≡ e → result ≡ kind_mark (kind e.call e.reply) }
-{
-    if place == NONE {
-        return NONE;
-    }
-    mark_of(entry_at(logs, k, place))
 }
 
 /// The entry at a place of log k.

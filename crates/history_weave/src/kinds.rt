@@ -2,7 +2,7 @@
 
 ghost use Rattle.std.specs.Prelude.{◌≡◌, ◌+◌, ◌*◌, ◌^◌, ◌/◌, ◌%◌, IsTrue, ◌↔◌};
 ghost use Rattle.history_weave.specs.Rule.{is_quiet, is_rest};
-ghost use Rattle.history_weave.specs.Kinds.{change_of, look, kind, seen_mark, look_mark, kind_mark, LooksQuietly, HoldsTask, SameTakes, SawTakesOf};
+ghost use Rattle.history_weave.specs.Kinds.{change_of, look, kind, seen_mark, look_mark, LooksQuietly, HoldsTask, SameTakes, SawTakesOf};
 
 use crate::places::NONE;
 use sched_base::{Reasons, TaskId};
@@ -123,16 +123,6 @@ pub(crate) fn look_mark(seen: &Seen, quiet: bool) -> usize
     ensures { result ≡ look_mark seen.now quiet }
 {
     if quiet { seen_mark(seen) } else { NONE }
-}
-
-/// The mark of an entry.
-pub(crate) fn mark_of(entry: &Entry) -> usize
-    ensures { result ≡ kind_mark (kind entry.now.call entry.now.reply) }
-{
-    match kind_of(entry) {
-        Kind::Look { seen, quiet, .. } => look_mark(&seen, quiet),
-        Kind::Post { .. } | Kind::Get { .. } | Kind::Draw { .. } | Kind::Apart => NONE,
-    }
 }
 
 /// Whether both are the same.

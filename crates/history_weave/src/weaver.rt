@@ -65,6 +65,7 @@ impl Weaver {
         }
         self.entries.reserve(entries - self.entries.len())?;
         self.index.links.resize(entries, NONE)?;
+        self.index.link_marks.resize(entries, NONE)?;
         self.room = entries;
         Ok(())
     }

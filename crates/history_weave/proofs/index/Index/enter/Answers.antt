@@ -25,7 +25,7 @@ returns-in-Look-clause-indexed c =
     let r = enters-read logs x c.args.k c.args.place c.index.result.now c.index-logs-k.result c.as_slice.result.now e c.requires.indexed c.requires.caller c.requires.next c.index.ensures c.index-logs-k.is c.as_slice.ensures c.index-as_slice-place.is in
     let h = sym c.kind_of.ensures ∙ c.in-Look.is in
     let lt : t < tasks_of x = named-read logs (tasks_of x) c.args.k c.args.place e κ c.requires.named r.stands h in
-    rw r.first (entered-look logs x c.args.k c.args.place t c.in-Look.seen c.in-Look.quiet e c.set.new.self c.set-in-Look.new.self c.at.result c.requires.indexed r.stands r.next h lt c.at.ensures (record { rows = c.set.ensures.rows; columns = c.set.ensures.columns; same = c.set.ensures.same; others = c.set.ensures.others }) (record { rows = c.set-in-Look.ensures.rows; columns = c.set-in-Look.ensures.columns; same = c.set-in-Look.ensures.same ∙ c.look_mark.ensures; others = c.set-in-Look.ensures.others }))
+    rw r.first (entered-look logs x c.args.k c.args.place t c.in-Look.seen c.in-Look.quiet e c.set.new.self c.set-in-Look.new.self c.at.result c.at-in-Look.result c.requires.indexed r.stands r.next h lt c.at.ensures c.at-in-Look.ensures (record { rows = c.set.ensures.rows; columns = c.set.ensures.columns; same = c.set.ensures.same; others = c.set.ensures.others }) (record { rows = c.set-in-Look.ensures.rows; columns = c.set-in-Look.ensures.columns; same = c.set-in-Look.ensures.same ∙ c.look_mark.ensures; others = c.set-in-Look.ensures.others }))
 
 pub returns-in-Get-clause-indexed : goal.returns-in-Get-clause-indexed
 returns-in-Get-clause-indexed c =

@@ -16,4 +16,5 @@ invariant-loop-k l =
       gets : l.self.gets ≡ l.fn.self.gets;
       draws : l.self.draws ≡ l.fn.self.draws;
       links : l.self.links ≡ l.fn.self.links;
+      link_marks : l.self.link_marks ≡ l.fn.self.link_marks;
     }

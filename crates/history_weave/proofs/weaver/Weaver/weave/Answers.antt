@@ -2,7 +2,7 @@ use Rattle.std.proofs.Common.{◌≡◌, ◌+◌, ◌≤◌, length, arith, ap, 
 use Rattle.history_weave.specs.Indexed.{tasks_of}
 use Rattle.history_weave.specs.Weaving.{Weaving}
 use Rattle.history_weave.proofs.Advances.{underway-went, fits_together}
-use Rattle.history_weave.proofs.Entering.{cleared}
+use Rattle.history_weave.proofs.Entering.{same_room, cleared}
 use Rattle.history_weave.proofs.Weaves.{HasMerge-named, underway-start, underway-goes_on, underway-empty}
 use Rattle.history_weave.proofs.weaver.Weaver.weave.Goals as goal
 
@@ -29,7 +29,7 @@ steps-init c =
       underway = rw (e.total, c.clear.ensures.items) start;
       indexed = e.indexed;
       index_tasks = e.tasks ∙ c.self.invariant.tasks ∙ tasks;
-      links = rw e.links c.self.invariant.links;
+      links = same_room _ _ _ e.links c.self.invariant.links;
       capacity = rw c.clear.ensures.capacity c.self.invariant.capacity;
       tasks = tasks;
       workers = workers;
@@ -73,7 +73,7 @@ steps-preserved c =
       underway = underway-went c.args.machine.now c.args.logs.now c.enter_all-total.result c.steps.self-inside.index c.advance-last.new.index c.steps.self-inside.entries.items c.advance-last.new.entries.items c.steps.machine c.advance-last.new.machine v.underway (omega arith) v.indexed w;
       indexed = w.went.indexed;
       index_tasks = w.went.tasks ∙ v.index_tasks;
-      links = rw w.went.links v.links;
+      links = same_room _ _ _ w.went.links v.links;
       capacity = rw c.advance-last.ensures.capacity v.capacity;
       tasks = v.tasks;
       workers = v.workers;

@@ -1,5 +1,5 @@
 use Rattle.std.proofs.Common.{◌≡◌, ◌-◌, ◌<◌, ◌≤◌, length, vec_capacity, vec_len}
-use Rattle.history_weave.specs.Indexed.{tasks_of, IsIndexed}
+use Rattle.history_weave.specs.Indexed.{tasks_of, HasLinkRoom, IsIndexed}
 use Rattle.history_weave.proofs.Weaves.{Underway}
 use Rattle.history_weave.proofs.weaver.Weaver.weave.Given as goal
 
@@ -10,7 +10,7 @@ invariant-steps l =
       underway : Underway l.fn.machine l.logs l.total l.self-inside.entries.items l.self-inside.index.next.items l.machine;
       indexed : IsIndexed l.logs l.self-inside.index;
       index_tasks : tasks_of l.self-inside.index ≡ l.fn.self.tasks;
-      links : l.self-inside.room ≤ length l.self-inside.index.links.items;
+      links : HasLinkRoom l.self-inside.room l.self-inside.index;
       capacity : l.self-inside.room ≤ vec_capacity l.self-inside.entries;
       tasks : l.self-inside.tasks ≡ l.fn.self.tasks;
       workers : l.self-inside.workers ≡ l.fn.self.workers;
