@@ -33,8 +33,22 @@ pub fn put_number(out: &mut Vec<u8>, number: u64) -> Result<(), AllocError>
     ensures kept { Kept out.old.items out.new.items }
     ensures written { OnOk result (out.new.items ≡ out.old.items ++ decimal number) }
 {
+    if number < 10 {
+        return put_digit(out, number as u8);
+    }
     let mut buffer = Buffer::new();
     put_bytes(out, buffer.format(number).as_bytes())
+}
+
+/// Appends a number of one digit.
+#[tactic(auto, using(std::proofs::lemmas::Fmt::decimal_digit))]
+fn put_digit(out: &mut Vec<u8>, digit: u8) -> Result<(), AllocError>
+    requires { digit < 10 }
+    ensures kept { Kept out.old.items out.new.items }
+    ensures written { OnOk result (out.new.items ≡ out.old.items ++ decimal digit) }
+{
+    out.push(b'0' + digit)?;
+    Ok(())
 }
 
 /// Appends a signed number.
