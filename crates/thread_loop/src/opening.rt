@@ -20,6 +20,15 @@ use step_tables::Script;
 use task_machine::{Log, Machine};
 use wake_board::{NO_HOLDER, Words};
 
+/// How many bytes the allocator is led to keep for later rounds.
+const KEPT: usize = 1 << 24;
+
+/// Leads the allocator to keep the memory of a round for the next one. The C library's gives free memory back to the system
+/// above twice the largest block that it had from there and gave back; of this one no byte is touched.
+pub(crate) fn keep_memory(alloc: Global) {
+    let _block = Vec::<u8>::with_capacity(alloc, KEPT);
+}
+
 /// The machine before round 0: a task that is to run from the start on is in the box of its home.
 pub fn machine_of(alloc: Global, script: &Script) -> Result<Machine, AllocError>
     ensures opens { IfOk result (λ m. m ≡ (opening script.now).state) }

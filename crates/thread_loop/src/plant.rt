@@ -13,7 +13,7 @@ ghost use Rattle.thread_loop.specs.Plants.{standing_of, tick_next, logs_of, next
 
 use crate::holders::hold;
 use crate::injector::{Injector, events_of};
-use crate::opening::{holders_of, homes_of, logs_of, queue_of, words_of, workers_of};
+use crate::opening::{holders_of, homes_of, keep_memory, logs_of, queue_of, words_of, workers_of};
 use crate::round::{make_round, swap_logs};
 use crate::worker::Worker;
 use eb32_core::Forest;
@@ -64,6 +64,7 @@ impl Plant {
         ensures tick { IfOk result (λ p. tick_next p ≡ script.now.start) }
         ensures ready { IfOk result (λ p. IsReady script.now 0 p) }
     {
+        keep_memory(alloc);
         Ok(Plant {
             workers: workers_of(alloc, script)?,
             injector: Injector::new(alloc, script)?,
