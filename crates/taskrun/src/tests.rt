@@ -3,7 +3,7 @@
 use crate::error_lines::tell;
 use crate::worked::*;
 use crate::{Status, answer, taskrun};
-use sched_base::{MemSink, MemSource, OpenGate, StdSink, StdSource};
+use sched_base::{CalmSink, CalmSource, MemSink, MemSource, OpenGate, StdSink, StdSource};
 use std::alloc::{AllocError, Global};
 use std::env::Args;
 use std::io::{self, ErrorKind};
@@ -231,9 +231,9 @@ fn takes_any_pieces(rt: HostRuntime) -> Result<(), Fail> {
                 piece_out,
                 ..CALM
             };
-            let outcome = run(&rt, rt.alloc(), "run", SELF_WAKE, streams)?;
+            let outcome = run(&rt, rt.alloc(), "run", TIMER, streams)?;
             assert_eq!(rt; outcome.code, 0);
-            assert_eq!(rt; outcome.text.as_slice(), SELF_WAKE_TEXT.as_bytes());
+            assert_eq!(rt; outcome.text.as_slice(), TIMER_TEXT.as_bytes());
         }
     }
     Ok(())
@@ -241,14 +241,14 @@ fn takes_any_pieces(rt: HostRuntime) -> Result<(), Fail> {
 
 #[test]
 fn tells_failed_reads(rt: HostRuntime) -> Result<(), Fail> {
-    let reads = SELF_WAKE.len().div_ceil(16) as u64 + 1;
+    let reads = TIMER.len().div_ceil(16) as u64 + 1;
     for n in 0..21 {
         let streams = Streams {
             piece_in: 16,
             fails_in: Some(n),
             ..CALM
         };
-        let outcome = run(&rt, rt.alloc(), "run", SELF_WAKE, streams)?;
+        let outcome = run(&rt, rt.alloc(), "run", TIMER, streams)?;
         assert_eq!(rt; outcome.code, if n < reads { 3 } else { 0 });
         assert_eq!(rt; outcome.text.is_empty(), n < reads);
     }
@@ -264,26 +264,26 @@ fn tells_failed_writes(rt: HostRuntime) -> Result<(), Fail> {
             fails_out: Some(n),
             ..CALM
         };
-        let outcome = run(&rt, rt.alloc(), "run", SELF_WAKE, streams)?;
-        let whole = outcome.text.len() == SELF_WAKE_TEXT.len();
+        let outcome = run(&rt, rt.alloc(), "run", TIMER, streams)?;
+        let whole = outcome.text.len() == TIMER_TEXT.len();
         assert_eq!(rt; outcome.code, if whole { 0 } else { 4 });
-        assert!(rt; is_front(&outcome.text, SELF_WAKE_TEXT));
+        assert!(rt; is_front(&outcome.text, TIMER_TEXT));
         if !whole {
             assert_eq!(rt; failed, n);
             failed = n + 1;
         }
     }
-    assert!(rt; failed > 40);
+    assert_eq!(rt; failed, TIMER_TEXT.len().div_ceil(10) as u64);
     Ok(())
 }
 
 #[test]
 fn fills_a_small_sink(rt: HostRuntime) -> Result<(), Fail> {
     let streams = Streams { room: 40, ..CALM };
-    let outcome = run(&rt, rt.alloc(), "run", SELF_WAKE, streams)?;
+    let outcome = run(&rt, rt.alloc(), "run", TIMER, streams)?;
     assert_eq!(rt; outcome.code, 4);
     assert_eq!(rt; outcome.text.len(), 40);
-    assert!(rt; is_front(&outcome.text, SELF_WAKE_TEXT));
+    assert!(rt; is_front(&outcome.text, TIMER_TEXT));
     Ok(())
 }
 
@@ -293,7 +293,7 @@ fn carries_bytes_over_std(rt: HostRuntime) -> Result<(), Fail> {
     let mut text = Vec::new(rt.alloc());
     let mut small = [0u8; 40];
     let mut err = StdSink::new(Vec::<u8>::new(rt.alloc()));
-    let mut src = StdSource::new(SELF_WAKE.as_bytes());
+    let mut src = StdSource::new(TIMER.as_bytes());
     let mut out = StdSink::new(&mut text);
     let mut crew = ThreadCrew::new();
     let whole = taskrun(
@@ -306,7 +306,7 @@ fn carries_bytes_over_std(rt: HostRuntime) -> Result<(), Fail> {
         &mut crew,
         &OpenGate,
     );
-    let mut src = StdSource::new(SELF_WAKE.as_bytes());
+    let mut src = StdSource::new(TIMER.as_bytes());
     let mut out = StdSink::new(&mut small[..]);
     let full = taskrun(
         &rt,
@@ -319,9 +319,41 @@ fn carries_bytes_over_std(rt: HostRuntime) -> Result<(), Fail> {
         &OpenGate,
     );
     assert_eq!(rt; whole, Status::Done);
-    assert_eq!(rt; text.as_slice(), SELF_WAKE_TEXT.as_bytes());
+    assert_eq!(rt; text.as_slice(), TIMER_TEXT.as_bytes());
     assert_eq!(rt; full, Status::WriteFault);
-    assert!(rt; is_front(&small, SELF_WAKE_TEXT));
+    assert!(rt; is_front(&small, TIMER_TEXT));
+    Ok(())
+}
+
+// Over streams that never fail and memory that suffices each command answers for certain.
+#[test]
+fn answers_over_calm_streams(rt: HostRuntime) -> Result<(), Fail> {
+    let replayed = format!(in rt.alloc(); "{TIMER}{TIMER_TEXT}")?;
+    let cases = [
+        ("run", TIMER, 0, TIMER_TEXT.len()),
+        ("run", TIMER_CUT, 1, 0),
+        ("replay", replayed.as_str(), 0, "lawful\n".len()),
+        ("replay", TIMER, 7, 0),
+        ("gen 7 64", "", 0, SUMMARY_OF_64.len()),
+        ("gen 7 4097", "", 2, 0),
+    ];
+    for (line, input, code, count) in cases {
+        let words = words_of(rt.alloc(), line)?;
+        let mut src = CalmSource::new(Vec::from_slice(rt.alloc(), input.as_bytes())?);
+        let mut out = CalmSink::new();
+        let status = taskrun(
+            &rt,
+            rt.alloc(),
+            &words,
+            &mut src,
+            &mut out,
+            &mut CalmSink::new(),
+            &mut ThreadCrew::new(),
+            &OpenGate,
+        );
+        assert_eq!(rt; status.code(), code);
+        assert_eq!(rt; out.count(), count as u64);
+    }
     Ok(())
 }
 
