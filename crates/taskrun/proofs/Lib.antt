@@ -1,4 +1,3 @@
-pub mod Joined
 pub mod Answered
 pub mod Calls
 pub mod Texts

@@ -30,7 +30,7 @@ use Rattle.taskrun.specs.Answers.{Wrote, WroteFront}
 use Rattle.taskrun.specs.declared.rounds.AfterRound.{AfterRound}
 use Rattle.taskrun.specs.Rounds.{Plays, made, is_last, IsMade, Makes, Adds, Underway}
 use Rattle.taskrun.proofs.Calls.{both}
-use Rattle.taskrun.proofs.Joined.{appends_more}
+use Rattle.program_edges.proofs.Joined.{appends_more}
 use Rattle.taskrun.proofs.RunTexts.{lawful_has_text}
 
 -- ---- whole rounds and one more

@@ -241,7 +241,3 @@ most_read None = 0
 most_read (Some RunScript) = 4194305
 most_read (Some Replay) = 71303169
 most_read (Some (Gen seed size)) = 0
-
--- at most so many bytes were read
-abbrev pub ReadsAtMost : ℕ → Option (List ℕ) → Option (List ℕ) → Type 0
-ReadsAtMost most before after = (piece : List ℕ) × (length piece ≤ most) × Reads before after piece

@@ -11,19 +11,13 @@ ghost use Rattle.taskrun.specs.ErrorLines.{error_line};
 use crate::error_lines::tell;
 use crate::status::Status;
 use crate::top::taskrun;
+use program_edges::behind_first;
 use sched_base::{Gate, Sink, Source};
-use std::alloc::{AllocError, Global};
+use std::alloc::Global;
 use std::env::Args;
 use std::io::{self, ErrorKind};
 use std::thread::Threads;
 use thread_loop::Crew;
-
-/// The arguments behind the first one.
-fn behind_first(alloc: Global, args: Args) -> Result<Vec<String>, AllocError>
-    ensures { IfOk result (λ words. words.items ≡ drop 1 (into_iter_items args)) }
-{
-    args.skip(1).collect(alloc)
-}
 
 /// Why there are no words.
 #[derive(Clone, Copy, Debug, PartialEq, Eq)]

@@ -4,10 +4,10 @@ ghost use Rattle.std.specs.Prelude.{◌≡◌, ◌+◌, ◌≤◌, ◌++◌, len
 ghost use Rattle.sched_base.specs.Streams.{Appends, AppendsFront, Rose};
 ghost use Rattle.taskrun.specs.ErrorLines.{error_line, script_fault_name, text_fault_name};
 
-use crate::pieces::write_all;
 use crate::status::Status;
 use arrayvec::ArrayString;
 use itoa::Buffer;
+use program_edges::write_all;
 use sched_base::{Failed, Sink};
 
 /// Room for the longest line, in bytes.

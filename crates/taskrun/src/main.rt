@@ -6,7 +6,6 @@ mod arguments;
 mod counting;
 mod error_lines;
 mod inputs;
-mod pieces;
 #[cfg(test)]
 mod replay_tests;
 mod replays;

@@ -4,12 +4,13 @@ ghost use Rattle.std.specs.Prelude.{◌≡◌, ◌≤◌, false, length, Ok, IfS
 ghost use Rattle.sched_base.specs.Streams.{Rose};
 ghost use Rattle.step_tables.specs.Judging.{script_of};
 ghost use Rattle.transcript.specs.Judging.{run_of, GoesOn};
-ghost use Rattle.taskrun.specs.Answers.{Replays, ExpectedReplay, IsReplaying, IsUnwritten, ReadsAtMost};
+ghost use Rattle.program_edges.specs.Texts.{ReadsAtMost};
+ghost use Rattle.taskrun.specs.Answers.{Replays, ExpectedReplay, IsReplaying, IsUnwritten};
 ghost use Rattle.taskrun.specs.Inputs.{script_part, transcript_part};
 
 use crate::inputs::parts;
-use crate::pieces::{ReadError, read_all, write_all};
 use crate::status::Status;
+use program_edges::{ReadError, read_all, write_all};
 use run_replay::{Verdict, judge};
 use sched_base::{Sink, Source};
 use std::alloc::Global;

@@ -9,7 +9,7 @@ ghost use Rattle.taskrun.specs.Answers.{Wrote, WroteFront};
 ghost use Rattle.taskrun.specs.Rounds.{Plays, Makes, Adds, Underway};
 ghost use Rattle.taskrun.specs.declared.rounds.PlayError.TheVariants.{Fault, Memory};
 
-use crate::pieces::write_all;
+use program_edges::write_all;
 use sched_base::{Failed, Gate, Sink};
 use std::alloc::{AllocError, Global};
 use std::thread::Threads;

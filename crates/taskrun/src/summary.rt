@@ -9,9 +9,9 @@ ghost use Rattle.taskrun.specs.Rounds.{IsSummary};
 ghost use Rattle.taskrun.specs.Summary.{summary_text};
 
 use crate::counting::Counts;
-use crate::pieces::write_all;
 use crate::rounds::{PlayError, make_round};
 use itoa::Buffer;
+use program_edges::write_all;
 use sched_base::{Gate, Sink};
 use std::alloc::{AllocError, Global};
 use std::thread::Threads;
