@@ -7,6 +7,7 @@ use Rattle.std.proofs.lemmas.Bool.{ltb-false, eqb-true}
 use Rattle.std.proofs.lemmas.Bool.Decides.{nat_tests}
 use Rattle.step_tables.specs.declared.tables.TaskDef.{TaskDef}
 use Rattle.step_tables.specs.declared.progress.Progress.{Progress}
+use Rattle.step_tables.specs.Limits.{limits_of, most_rows, most_actions}
 use Rattle.step_tables.specs.Shapes.{TaskLine, RowLine, EventLine}
 use Rattle.step_tables.specs.Judging.{no_number, delay_no_number, place_no_number, first_fault, task_tests, row_tests, event_tests, place_outside, delay_outside, outside, value, unknown, named, order_name, due, promised, wrong_target, barred, last_round}
 
@@ -29,6 +30,9 @@ inside_get [] i x e = absurd (none-some x e)
 inside_get (y ∷ ys) zero x e = omega arith
 inside_get (y ∷ ys) (suc i) x e = let less = inside_get ys i x e in omega arith
 
+pub not_le : (a b : ℕ) → nat_le a b ≡ false → b < a
+not_le a b h = grind (arith, nat_tests)
+
 -- the row that must come next
 pub record Target (p : Progress) (line : RowLine) (task : TaskDef) : Type 0 where
   pub is_due : due p ≡ Some task
@@ -42,9 +46,6 @@ target p line (Some task) is_due e =
     let (name, more) = neither _ _ e in
     let (number, next) = neither _ _ more in
     (task, record { is_due = is_due; name = not_false _ name; number = eqb-true _ _ (not_false _ number); next = not_le _ _ next })
-  where
-    not_le : (a b : ℕ) → nat_le a b ≡ false → b < a
-    not_le a b h = grind (arith, nat_tests)
 
 -- a good row
 pub record GoodRow (p : Progress) (line : RowLine) : Type 0 where
@@ -53,7 +54,7 @@ pub record GoodRow (p : Progress) (line : RowLine) : Type 0 where
   pub target : Target p line task
   pub known : list_any (λ order. unknown p.tasks (order_name order)) line.orders ≡ false
   pub expiry : barred (due p) line.delay ≡ false
-  pub few : nat_lt 16 (length line.orders) ≡ false
+  pub few : nat_lt most_actions (length line.orders) ≡ false
   pub ticks : delay_outside line.delay ≡ false
 
 pub good_row : (p : Progress) (line : RowLine) → first_fault (row_tests p line) ≡ None → GoodRow p line
@@ -71,7 +72,7 @@ pub record GoodEvent (p : Progress) (line : EventLine) : Type 0 where
   pub number : no_number line.round ≡ false
   pub known : unknown p.tasks (order_name line.order) ≡ false
   pub round : value line.round < p.rounds
-  pub few : nat_le 65536 (length p.events) ≡ false
+  pub few : nat_le (limits_of p.version).events (length p.events) ≡ false
   pub rising : last_round p.events ≤ value line.round
 
 pub good_event : (p : Progress) (line : EventLine) → first_fault (event_tests p line) ≡ None → GoodEvent p line
@@ -82,17 +83,14 @@ good_event p line e =
     let (round, more) = neither _ _ ranges in
     let (few, rising) = neither _ _ more in
     record { number = numbers; known = names; round = not_le _ _ round; few = few; rising = ltb-false _ _ rising }
-  where
-    not_le : (a b : ℕ) → nat_le a b ≡ false → b < a
-    not_le a b h = grind (arith, nat_tests)
 
 -- a good task line
 pub record GoodTask (p : Progress) (line : TaskLine) : Type 0 where
   pub numbers : (place_no_number line.place || no_number line.rows) ≡ false
   pub new : unknown p.tasks line.name ≡ true
   pub place : place_outside p.workers line.place ≡ false
-  pub rows : outside 1 64 (value line.rows) ≡ false
-  pub few : nat_le 4096 (length p.tasks) ≡ false
+  pub rows : outside 1 most_rows (value line.rows) ≡ false
+  pub few : nat_le (limits_of p.version).tasks (length p.tasks) ≡ false
 
 pub good_task : (p : Progress) (line : TaskLine) → first_fault (task_tests p line) ≡ None → GoodTask p line
 good_task p line e =

@@ -1,6 +1,6 @@
 -- The first six lines of a script, and the script as a whole.
 use Rattle.std.proofs.Common.{◌≡◌, ℕ, ◌+◌, ◌<◌, true, false, List, [], ◌∷◌, take, refl, ap, sym, ◌∙◌, arith, inl, inr, lit<}
-use Rattle.std.specs.Prelude.{Option, Some, Result, Ok, Err, IfOk, IsTrue, codes, nat_le}
+use Rattle.std.specs.Prelude.{Option, Some, Result, Ok, Err, IfOk, IsTrue, nat_le}
 use Rattle.std.proofs.lemmas.Bool.Decides.{nat_tests}
 use Rattle.step_tables.specs.declared.tables.Script.{Script}
 use Rattle.step_tables.specs.declared.progress.Progress.{Progress}
@@ -13,6 +13,7 @@ use Rattle.step_tables.specs.Words.{Word, pieces, words_of}
 use Rattle.step_tables.specs.Shapes.{sets}
 use Rattle.step_tables.specs.Text.{said_words}
 use Rattle.step_tables.specs.Sound.{is_sound}
+use Rattle.step_tables.specs.Limits.{limits_of}
 use Rattle.step_tables.specs.Judging.{version_of, value, no_number, outside, least, most, nothing, with_setting, setting_at, judged, long_line, script_within, script_of, byte_limit}
 use Rattle.step_tables.proofs.Steps.{IsTaken, header_is}
 use Rattle.step_tables.proofs.SoundParts.{not_outside}
@@ -24,10 +25,10 @@ abbrev pub with_settings : ℕ → ℕ → ℕ → ℕ → ℕ → ℕ → Progr
 with_settings version workers depth start step rounds = record { version = version; workers = workers; depth = depth; start = start; step = step; rounds = rounds; tasks = []; counts = []; at = 0; events = []; ended = false }
 
 -- the line of a setting
-pub record IsSetting (setting : Setting) (line : List ℕ) (word : Word) : Type 0 where
+pub record IsSetting (version : ℕ) (setting : Setting) (line : List ℕ) (word : Word) : Type 0 where
   pub words : words_of line ≡ Some (said_words (sets setting word))
   pub number : no_number word ≡ false
-  pub range : outside (least setting) (most setting) (value word) ≡ false
+  pub range : outside (least setting) (most (limits_of version) setting) (value word) ≡ false
 
 -- the first line
 abbrev pub opened : ℕ → Progress
@@ -42,7 +43,7 @@ pub record AfterSetting (long : Option ℕ) (n : ℕ) (setting : Setting) (p : P
   pub line : List ℕ
   pub rest : List (List ℕ)
   pub cut : lines ≡ line ∷ rest
-  pub is : IsSetting setting line word
+  pub is : IsSetting p.version setting line word
   pub others : judged long (n + 1) (with_setting p setting (value word)) rest ≡ Ok s
 
 after_setting : (long : Option ℕ) (n : ℕ) (setting : Setting) (p : Progress) (lines : List (List ℕ)) (s : Script)
@@ -100,13 +101,16 @@ head_others long lines s h = h.six.others
 
 -- what is read of the first six lines is valid
 pub valid_head : (long : Option ℕ) (lines : List (List ℕ)) (s : Script) (h : HeadOf long lines s) → Valid (head_read long lines s h)
+unfolding with_setting
 valid_head long lines s h = record {
-  version = (header_is h.line h.version h.says).1;
-  workers = not_outside 1 16 (value h.two.word) h.two.is.range;
-  depth = not_outside 1 1000 (value h.three.word) h.three.is.range;
-  start = at_most (value h.four.word) h.four.is.range;
-  step = not_outside 1 1048576 (value h.five.word) h.five.is.range;
-  rounds = not_outside 1 100000 (value h.six.word) h.six.is.range;
+  settings = record {
+    version = (header_is h.line h.version h.says).1;
+    workers = not_outside 1 (limits_of h.version).workers (value h.two.word) h.two.is.range;
+    depth = not_outside 1 (limits_of h.version).depth (value h.three.word) h.three.is.range;
+    start = at_most (value h.four.word) (limits_of h.version).start h.four.is.range;
+    step = not_outside 1 (limits_of h.version).step (value h.five.word) h.five.is.range;
+    rounds = not_outside 1 (limits_of h.version).rounds (value h.six.word) h.six.is.range;
+  };
   few = refl;
   tables = tt;
   names = refl;
@@ -117,8 +121,8 @@ valid_head long lines s h = record {
   done = λ ended. refl;
 }
   where
-    at_most : (n : ℕ) → outside 0 4294967295 n ≡ false → nat_le n 4294967295 ≡ true
-    at_most n e = grind (arith, nat_tests)
+    at_most : (n high : ℕ) → outside 0 high n ≡ false → nat_le n high ≡ true
+    at_most n high e = grind (arith, nat_tests)
 
 -- the lines behind the first six make a script in range
 sound_lines : (long : Option ℕ) (n : ℕ) (p : Progress) (lines : List (List ℕ)) (s : Script) → 6 < n → Valid p → judged long n p lines ≡ Ok s → is_sound s ≡ true

@@ -1,5 +1,6 @@
 mod Examples
 pub mod Options
+pub mod Bounds
 pub mod Good
 pub mod Steps
 pub mod Walk

@@ -1,6 +1,6 @@
 -- A text that is read is within the limit of bytes.
 use Rattle.std.proofs.Common.{◌≡◌, ℕ, ◌+◌, ◌≤◌, ◌<◌, Bool, true, false, cond, List, [], ◌∷◌, ◌++◌, length, take, min, refl, ap, sym, ◌∙◌, arith, append_assoc, append-nil, length-append}
-use Rattle.std.specs.Prelude.{Some, None, Ok, ◌==◌, nat_lt, codes, count_by, flat_map}
+use Rattle.std.specs.Prelude.{Some, None, Ok, ◌==◌, nat_lt, count_by, flat_map}
 use Rattle.std.proofs.lemmas.Bool.{ltb-false, ltb-true}
 use Rattle.std.proofs.lemmas.Bool.Decides.{nat_tests}
 use Rattle.std.proofs.lemmas.List.{length-take, take_all, take_at}

@@ -10,13 +10,12 @@ use Rattle.step_tables.specs.Views.{Takes, Gives}
 use Rattle.step_tables.specs.Words.{pieces}
 use Rattle.step_tables.specs.Judging.{taken, closed, go_on, judged}
 use Rattle.text_lines.proofs.Cuts.{pieces_not_empty}
-use Rattle.step_tables.proofs.Steps.{judged_more, few_taken}
+use Rattle.step_tables.proofs.Steps.{judged_more}
 
 -- so many lines were read of bytes, and the others decide
 pub record Before (long : Option ℕ) (bytes rest : List ℕ) (n : ℕ) (p : Progress) (whole : Result Script ScriptFault) : Type 0 where
   pub first : 1 ≤ n
   pub counted : n + length rest ≤ length bytes + 1
-  pub few : length p.tasks ≤ 4096
   pub same : judged long n p (pieces 10 rest) ≡ whole
 
 -- one line more
@@ -28,7 +27,6 @@ before_next long bytes rest line more n p q whole cut less taken_is before =
     record {
       first = omega arith;
       counted = omega arith;
-      few = few_taken long n line p q taken_is before.few;
       same = sym (ap (judged long n p) cut ∙ judged_more long n p line (pieces 10 more) (pieces_not_empty 10 more) ∙ ap (λ r. go_on r (λ q. judged long (n + 1) q (pieces 10 more))) taken_is) ∙ before.same;
     }
 

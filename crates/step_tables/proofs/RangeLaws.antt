@@ -1,8 +1,7 @@
 -- From the tests of a script's ranges to what they say of each part.
 use Rattle.std.proofs.Common.{◌≡◌, ℕ, suc, zero, ◌≤◌, ◌<◌, Bool, true, List, [], ◌∷◌, length, ap, sym, ◌∙◌, arith}
-use Rattle.std.specs.Prelude.{Some, ◌&&◌, ◌==◌, nat_le, nat_lt, slice_get}
+use Rattle.std.specs.Prelude.{Some, ◌&&◌, nat_le, nat_lt, slice_get}
 use Rattle.std.specs.List.{list_all}
-use Rattle.std.proofs.lemmas.Bool.{eqb-true}
 use Rattle.std.proofs.lemmas.Bool.Decides.{nat_tests}
 use Rattle.std.proofs.lemmas.Option.{none-some}
 use Rattle.step_tables.specs.declared.tables.Action.{Action}
@@ -15,16 +14,15 @@ use Rattle.step_tables.specs.declared.tables.Row.{Row}
 use Rattle.step_tables.specs.declared.tables.TaskDef.{TaskDef}
 use Rattle.step_tables.specs.declared.tables.Event.{Event}
 use Rattle.step_tables.specs.declared.tables.Script.{Script}
+use Rattle.step_tables.specs.Limits.{newest, limits_of, most_rows, most_actions, most_delay}
 use Rattle.step_tables.specs.Sound.{within, is_nice, is_sound_action, is_sound_expiry, is_sound_kind, is_sound_row, is_sound_task, rising_below, is_sound}
 use Rattle.step_tables.specs.Ranges.{ActionRange, ExpiryRange, KindRange, RowRange, TaskRange, ScriptRange}
+use Rattle.step_tables.proofs.Bounds.{within_most, in_range}
 use Rattle.step_tables.proofs.RowsOf.{first_of_both, second_of_both}
 
 -- the first and the rest of a row of tests
 split : (a b : Bool) → (a && b) ≡ true → (a ≡ true) × (b ≡ true)
 split a b e = (first_of_both a b e, second_of_both a b e)
-
-within_range : (low high n : ℕ) → within low high n ≡ true → (low ≤ n) × (n ≤ high)
-within_range low high n e = grind (arith, nat_tests)
 
 at_most : (n high : ℕ) → nat_le n high ≡ true → n ≤ high
 at_most n high e = grind (arith, nat_tests)
@@ -41,13 +39,13 @@ each test (y ∷ ys) (suc i) x e at = each test ys i x (second_of_both _ _ e) at
 action_range : (tasks : ℕ) (action : Action) → is_sound_action tasks action ≡ true → ActionRange tasks action
 action_range tasks (Wake i reasons) e =
     let (task, some) = split (nat_lt i.0 tasks) (within 1 127 reasons) e in
-    let (low, high) = within_range 1 127 reasons some in
+    let (low, high) = within_most 1 127 reasons some in
     (below i.0 tasks task, omega arith, omega arith)
 action_range tasks (Kill i) e = below i.0 tasks e
 
 expiry_range : (kind : Kind) (expiry : Expiry) → is_sound_expiry kind expiry ≡ true → ExpiryRange kind expiry
 expiry_range kind Keep e = tt
-expiry_range (Pinned home nice) (After ticks) e = within_range 1 1073741824 ticks e
+expiry_range (Pinned home nice) (After ticks) e = within_most 1 most_delay ticks e
 expiry_range (Pinned home nice) Never e = tt
 expiry_range (Shared nice) (After ticks) e = absurd (cc)
 expiry_range (Shared nice) Never e = absurd (cc)
@@ -61,11 +59,11 @@ kind_range workers (Tasklet home class) e = below home workers e
 
 row_range : (tasks : ℕ) (kind : Kind) (rows : ℕ) (row : Row) → is_sound_row tasks kind rows row ≡ true → RowRange tasks kind rows row
 row_range tasks kind rows row e =
-    let (few, e_2) = split (nat_le (length row.actions) 16) _ e in
+    let (few, e_2) = split (nat_le (length row.actions) most_actions) _ e in
     let (actions, e_3) = split (list_all (is_sound_action tasks) row.actions) _ e_2 in
     let (expiry, next) = split (is_sound_expiry kind row.expiry) (nat_lt row.next rows) e_3 in
     record {
-      few = at_most _ 16 few;
+      few = at_most _ most_actions few;
       actions = λ k action at. action_range tasks action (each (is_sound_action tasks) row.actions k action actions at);
       expiry = expiry_range kind row.expiry expiry;
       next = below row.next rows next;
@@ -75,8 +73,8 @@ task_range : (workers tasks : ℕ) (task : TaskDef) → is_sound_task workers ta
 task_range workers tasks task e =
     let e_2 = second_of_both _ _ e in
     let (kind, e_3) = split (is_sound_kind workers task.kind) _ e_2 in
-    let (count, rows) = split (within 1 64 (length task.rows)) (list_all (is_sound_row tasks task.kind (length task.rows)) task.rows) e_3 in
-    let (some, few) = within_range 1 64 (length task.rows) count in
+    let (count, rows) = split (within 1 most_rows (length task.rows)) (list_all (is_sound_row tasks task.kind (length task.rows)) task.rows) e_3 in
+    let (some, few) = within_most 1 most_rows (length task.rows) count in
     record {
       kind = kind_range workers task.kind kind;
       some = some;
@@ -92,36 +90,27 @@ round_below from rounds (f ∷ events) (suc k) event e at = round_below f.round 
 
 -- a script in range has each part in range
 pub range_of_sound : (s : Script) → is_sound s ≡ true → ScriptRange s
-unfolding is_sound
 range_of_sound s e =
-    let (version, e_1) = split (within 1 2 s.version) _ e in
-    let (workers, e_2) = split (within 1 16 s.workers) _ e_1 in
-    let (depth, e_3) = split (within 1 1000 s.depth) _ e_2 in
-    let (start, e_4) = split (nat_le s.start 4294967295) _ e_3 in
-    let (step, e_5) = split (within 1 1048576 s.step) _ e_4 in
-    let (rounds, e_6) = split (within 1 100000 s.rounds) _ e_5 in
-    let (few, e_7) = split (nat_le (length s.tasks) 4096) _ e_6 in
-    let (tasks, e_8) = split (list_all (is_sound_task s.workers (length s.tasks)) s.tasks) _ e_7 in
-    let e_9 = second_of_both _ _ e_8 in
-    let (few_events, e_10) = split (nat_le (length s.events) 65536) _ e_9 in
-    let (actions, rising) = split (list_all (λ event. is_sound_action (length s.tasks) event.action) s.events) (rising_below 0 s.rounds s.events) e_10 in
+    let r = in_range s e in
+    let of = r.settings in
+    let top = limits_of s.version in
     record {
-      some_version = (within_range 1 2 s.version version).0;
-      few_version = (within_range 1 2 s.version version).1;
-      some_workers = (within_range 1 16 s.workers workers).0;
-      few_workers = (within_range 1 16 s.workers workers).1;
-      some_depth = (within_range 1 1000 s.depth depth).0;
-      few_depth = (within_range 1 1000 s.depth depth).1;
-      start = at_most s.start 4294967295 start;
-      some_step = (within_range 1 1048576 s.step step).0;
-      few_step = (within_range 1 1048576 s.step step).1;
-      some_rounds = (within_range 1 100000 s.rounds rounds).0;
-      few_rounds = (within_range 1 100000 s.rounds rounds).1;
-      few_tasks = at_most (length s.tasks) 4096 few;
-      tasks = λ i task at. task_range s.workers (length s.tasks) task (each (is_sound_task s.workers (length s.tasks)) s.tasks i task tasks at);
-      few_events = at_most (length s.events) 65536 few_events;
+      some_version = (within_most 1 newest s.version of.version).0;
+      few_version = (within_most 1 newest s.version of.version).1;
+      some_workers = (within_most 1 top.workers s.workers of.workers).0;
+      few_workers = (within_most 1 top.workers s.workers of.workers).1;
+      some_depth = (within_most 1 top.depth s.depth of.depth).0;
+      few_depth = (within_most 1 top.depth s.depth of.depth).1;
+      start = at_most s.start top.start of.start;
+      some_step = (within_most 1 top.step s.step of.step).0;
+      few_step = (within_most 1 top.step s.step of.step).1;
+      some_rounds = (within_most 1 top.rounds s.rounds of.rounds).0;
+      few_rounds = (within_most 1 top.rounds s.rounds of.rounds).1;
+      few_tasks = at_most (length s.tasks) top.tasks r.few;
+      tasks = λ i task at. task_range s.workers (length s.tasks) task (each (is_sound_task s.workers (length s.tasks)) s.tasks i task r.tasks at);
+      few_events = at_most (length s.events) top.events r.few_events;
       events = λ k event at. record {
-        round = round_below 0 s.rounds s.events k event rising at;
-        action = action_range (length s.tasks) event.action (each (λ x. is_sound_action (length s.tasks) x.action) s.events k event actions at);
+        round = round_below 0 s.rounds s.events k event r.rising at;
+        action = action_range (length s.tasks) event.action (each (λ x. is_sound_action (length s.tasks) x.action) s.events k event r.actions at);
       };
     }

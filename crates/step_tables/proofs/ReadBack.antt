@@ -1,6 +1,6 @@
 -- From a script that was read back to its text.
 use Rattle.std.proofs.Common.{◌≡◌, ℕ, ◌+◌, ◌<◌, Bool, true, false, List, [], ◌∷◌, ◌++◌, map, length, set, refl, ap, sym, ◌∙◌, arith, subst, append_assoc, append-nil, lit<}
-use Rattle.std.specs.Prelude.{Option, Some, None, Ok, ◌==◌, codes, flat_map, decimal}
+use Rattle.std.specs.Prelude.{Option, Some, None, Ok, ◌==◌, flat_map, decimal}
 use Rattle.std.specs.List.{join_with_byte}
 use Rattle.std.proofs.lemmas.Bool.Decides.{nat_tests}
 use Rattle.std.proofs.lemmas.List.{map-append}
@@ -179,8 +179,8 @@ join_lines (x ∷ []) = sym (append_assoc (bytes_of x) (10 ∷ []) []) ∙ refl
 join_lines (x ∷ y ∷ xs) = ap (λ r. bytes_of x ++ 10 ∷ r) (join_lines (y ∷ xs)) ∙ sym (append_assoc (bytes_of x) (10 ∷ []) (flat_map (λ z. line_text (said_words z)) (y ∷ xs)))
 
 -- the line of a setting is what is written of its value
-setting_line_is : (setting : Setting) (line : List ℕ) (word : Word) → IsSetting setting line word → line ≡ bytes_of (sets setting (decimal (value word)))
-setting_line_is setting line word is = words_back line _ is.words ∙ ap (λ w. bytes_of (sets setting w)) (value_back word is.number)
+setting_line_is : (v : ℕ) (setting : Setting) (line : List ℕ) (word : Word) → IsSetting v setting line word → line ≡ bytes_of (sets setting (decimal (value word)))
+setting_line_is v setting line word is = words_back line _ is.words ∙ ap (λ w. bytes_of (sets setting w)) (value_back word is.number)
 
 -- there is a line behind the first six
 some_rest : (long : Option ℕ) (n : ℕ) (p : Progress) (lines : List (List ℕ)) (s : Script) → p.ended ≡ false → judged long n p lines ≡ Ok s → is_empty lines ≡ false
@@ -191,9 +191,9 @@ lines_left_of : (long : Option ℕ) (n : ℕ) (p : Progress) (lines : List (List
 lines_left_of long n p [] s some behind v e = absurd (cc)
 lines_left_of long n p (line ∷ lines) s some behind v e = lines_left long n p line lines s behind v e
 
-setting_cons : (setting : Setting) (lines : List (List ℕ)) (line : List ℕ) (rest : List (List ℕ)) (word : Word) (m : ℕ)
-    → lines ≡ line ∷ rest → IsSetting setting line word → m ≡ value word → lines ≡ bytes_of (sets setting (decimal m)) ∷ rest
-setting_cons setting lines line rest word m cut is same = cut ∙ ap (λ l. l ∷ rest) (setting_line_is setting line word is ∙ ap (λ k. bytes_of (sets setting (decimal k))) (sym same))
+setting_cons : (v : ℕ) (setting : Setting) (lines : List (List ℕ)) (line : List ℕ) (rest : List (List ℕ)) (word : Word) (m : ℕ)
+    → lines ≡ line ∷ rest → IsSetting v setting line word → m ≡ value word → lines ≡ bytes_of (sets setting (decimal m)) ∷ rest
+setting_cons v setting lines line rest word m cut is same = cut ∙ ap (λ l. l ∷ rest) (setting_line_is v setting line word is ∙ ap (λ k. bytes_of (sets setting (decimal k))) (sym same))
 
 six_lines : (lines r1 r2 r3 r4 r5 r6 r7 : List (List ℕ)) (h a b c d e : List ℕ)
     → lines ≡ h ∷ r1 → r1 ≡ a ∷ r2 → r2 ≡ b ∷ r3 → r3 ≡ c ∷ r4 → r4 ≡ d ∷ r5 → r5 ≡ e ∷ r6 → r6 ≡ r7
@@ -207,11 +207,11 @@ lines_of_read : (long : Option ℕ) (lines : List (List ℕ)) (s : Script) (h : 
 lines_of_read long lines s h left = six_lines lines h.behind h.two.rest h.three.rest h.four.rest h.five.rest h.six.rest (map bytes_of (body_said s.tasks s.events) ++ [] ∷ [])
     (header_of s.version) (bytes_of (sets Workers (decimal s.workers))) (bytes_of (sets Depth (decimal s.depth))) (bytes_of (sets Start (decimal s.start))) (bytes_of (sets Step (decimal s.step))) (bytes_of (sets Rounds (decimal s.rounds)))
     (h.first ∙ ap (λ l. l ∷ h.behind) ((header_is h.line h.version h.says).0 ∙ ap header_of (sym left.version)))
-    (setting_cons Workers h.behind h.two.line h.two.rest h.two.word s.workers h.two.cut h.two.is left.workers)
-    (setting_cons Depth h.two.rest h.three.line h.three.rest h.three.word s.depth h.three.cut h.three.is left.depth)
-    (setting_cons Start h.three.rest h.four.line h.four.rest h.four.word s.start h.four.cut h.four.is left.start)
-    (setting_cons Step h.four.rest h.five.line h.five.rest h.five.word s.step h.five.cut h.five.is left.step)
-    (setting_cons Rounds h.five.rest h.six.line h.six.rest h.six.word s.rounds h.six.cut h.six.is left.rounds)
+    (setting_cons _ Workers h.behind h.two.line h.two.rest h.two.word s.workers h.two.cut h.two.is left.workers)
+    (setting_cons _ Depth h.two.rest h.three.line h.three.rest h.three.word s.depth h.three.cut h.three.is left.depth)
+    (setting_cons _ Start h.three.rest h.four.line h.four.rest h.four.word s.start h.four.cut h.four.is left.start)
+    (setting_cons _ Step h.four.rest h.five.line h.five.rest h.five.word s.step h.five.cut h.five.is left.step)
+    (setting_cons _ Rounds h.five.rest h.six.line h.six.rest h.six.word s.rounds h.six.cut h.six.is left.rounds)
     (left.cut ∙ ap (λ xs. map bytes_of xs ++ [] ∷ []) left.whole)
 
 text_of_lines : (bytes : List ℕ) (s : Script) → pieces 10 bytes ≡ header_of s.version ∷ (map bytes_of (settings_said s ++ body_said s.tasks s.events) ++ [] ∷ []) → bytes ≡ script_text s

@@ -1,5 +1,5 @@
 -- The row lines of a script in range pass.
-use Rattle.std.proofs.Common.{◌≡◌, ℕ, suc, zero, ◌+◌, ◌^◌, ◌≤◌, ◌<◌, Bool, true, false, cond, List, [], ◌∷◌, map, length, refl, ap, ◌∙◌, arith}
+use Rattle.std.proofs.Common.{◌≡◌, ℕ, suc, zero, ◌+◌, ◌^◌, ◌<◌, Bool, true, false, cond, List, [], ◌∷◌, map, length, refl, ap, ◌∙◌, arith}
 use Rattle.std.specs.Prelude.{Some, None, is_none, is_some, unwrap_or, bytes_eq, ◌&&◌, not, nat_lt, nat_le, decimal, flat_map}
 use Rattle.std.specs.List.{list_all, list_any, position_or_len}
 use Rattle.std.proofs.lemmas.Bool.Decides.{nat_tests}
@@ -17,6 +17,7 @@ use Rattle.step_tables.specs.Words.{Word, is_name}
 use Rattle.step_tables.specs.Shapes.{RowLine}
 use Rattle.step_tables.specs.Text.{order_words, delay_words, name_at, order_said, delay_said, names_of}
 use Rattle.step_tables.specs.Sound.{within, is_sound_action, is_sound_expiry, is_sound_row, distinct_names}
+use Rattle.step_tables.specs.Limits.{most_actions, most_delay}
 use Rattle.step_tables.specs.Judging.{outside, delay_no_number, delay_outside, named, unknown, number_named, order_name, reasons_named, action_of, expiry_of, row_of, is_timerless, is_expiry}
 use Rattle.std.proofs.lemmas.Slice.Eq.{bytes_eq-Decides}
 use Rattle.step_tables.proofs.Good.{neither}
@@ -24,7 +25,7 @@ use Rattle.step_tables.proofs.RowsOf.{both, first_of_both, second_of_both}
 use Rattle.step_tables.proofs.Back.{IsOrder, AreOrders}
 use Rattle.step_tables.proofs.WordsAgain.{is_word, are_words, number_is_word, is_number, value_again, name_is_word, reasons_again, reasons_is_word}
 use Rattle.step_tables.proofs.RunAgain.{both_false}
-use Rattle.step_tables.proofs.TasksAgain.{within_outside}
+use Rattle.step_tables.proofs.Bounds.{within_outside, delay_small}
 
 pub same_word : (w : Word) → bytes_eq w w ≡ true
 same_word w = (bytes_eq-Decides w w).1 refl
@@ -141,17 +142,11 @@ orders_are_words tasks (a ∷ as_) fine e =
     list_all-append is_word (order_words (order_said (names_of tasks) a)) (flat_map order_words (map (order_said (names_of tasks)) as_))
     ∙ both _ _ (order_are_words tasks a fine (first_of_both _ _ e)) (orders_are_words tasks as_ fine (second_of_both (is_sound_action (length tasks) a) _ e))
 
-ticks_small : (n : ℕ) → within 1 1073741824 n ≡ true → n < 10 ^ 10
-ticks_small n e = let h = most n e in omega arith
-  where
-    most : (k : ℕ) → within 1 1073741824 k ≡ true → k ≤ 1073741824
-    most k f = grind (arith, nat_tests)
-
 -- an expiry in range
 pub delay_number : (kind : Kind) (e : Expiry) → is_sound_expiry kind e ≡ true → delay_no_number (delay_said e) ≡ false
 unfolding delay_no_number delay_said
 delay_number kind Keep h = refl
-delay_number (Pinned home nice) (After ticks) h = is_number ticks (ticks_small ticks h)
+delay_number (Pinned home nice) (After ticks) h = is_number ticks (delay_small ticks h)
 delay_number (Shared nice) (After ticks) h = absurd (cc)
 delay_number (Tasklet home class) (After ticks) h = absurd (cc)
 delay_number kind Never h = refl
@@ -159,7 +154,7 @@ delay_number kind Never h = refl
 pub delay_inside : (kind : Kind) (e : Expiry) → is_sound_expiry kind e ≡ true → delay_outside (delay_said e) ≡ false
 unfolding delay_outside delay_said
 delay_inside kind Keep h = refl
-delay_inside (Pinned home nice) (After ticks) h = ap (outside 1 1073741824) (value_again ticks (ticks_small ticks h)) ∙ within_outside 1 1073741824 ticks h
+delay_inside (Pinned home nice) (After ticks) h = ap (outside 1 most_delay) (value_again ticks (delay_small ticks h)) ∙ within_outside 1 most_delay ticks h
 delay_inside (Shared nice) (After ticks) h = absurd (cc)
 delay_inside (Tasklet home class) (After ticks) h = absurd (cc)
 delay_inside kind Never h = refl
@@ -177,7 +172,7 @@ delay_allowed (Tasklet home class) Never h = absurd (cc)
 pub expiry_again : (kind : Kind) (e : Expiry) → is_sound_expiry kind e ≡ true → expiry_of (delay_said e) ≡ e
 unfolding expiry_of delay_said
 expiry_again kind Keep h = refl
-expiry_again (Pinned home nice) (After ticks) h = ap After (value_again ticks (ticks_small ticks h))
+expiry_again (Pinned home nice) (After ticks) h = ap After (value_again ticks (delay_small ticks h))
 expiry_again (Shared nice) (After ticks) h = absurd (cc)
 expiry_again (Tasklet home class) (After ticks) h = absurd (cc)
 expiry_again kind Never h = refl
@@ -185,7 +180,7 @@ expiry_again kind Never h = refl
 pub delay_are_words : (kind : Kind) (e : Expiry) → is_sound_expiry kind e ≡ true → are_words (delay_words (delay_said e)) ≡ true
 unfolding delay_said
 delay_are_words kind Keep h = refl
-delay_are_words (Pinned home nice) (After ticks) h = both true _ refl (both _ true (number_is_word ticks (ticks_small ticks h)) refl)
+delay_are_words (Pinned home nice) (After ticks) h = both true _ refl (both _ true (number_is_word ticks (delay_small ticks h)) refl)
 delay_are_words (Shared nice) (After ticks) h = absurd (cc)
 delay_are_words (Tasklet home class) (After ticks) h = absurd (cc)
 delay_are_words kind Never h = refl
@@ -194,11 +189,11 @@ delay_are_words kind Never h = refl
 abbrev pub row_line_of : List Word → Word → ℕ → Row → RowLine
 row_line_of names name k r = record { name = name; number = decimal k; orders = map (order_said names) r.actions; delay = delay_said r.expiry; next = decimal r.next }
 
-pub row_again_of : (tasks : List TaskDef) (kind : Kind) (rows : ℕ) (name : Word) (k : ℕ) (r : Row) → distinct_names (names_of tasks) ≡ true → rows ≤ 64 → is_sound_row (length tasks) kind rows r ≡ true
+pub row_again_of : (tasks : List TaskDef) (kind : Kind) (rows : ℕ) (name : Word) (k : ℕ) (r : Row) → distinct_names (names_of tasks) ≡ true → rows < 10 ^ 10 → is_sound_row (length tasks) kind rows r ≡ true
     → row_of tasks (row_line_of (names_of tasks) name k r) ≡ r
 unfolding row_of
 row_again_of tasks kind rows name k r d few e =
-    let e_2 = second_of_both (nat_le (length r.actions) 16) _ e in
+    let e_2 = second_of_both (nat_le (length r.actions) most_actions) _ e in
     let e_3 = second_of_both (list_all (is_sound_action (length tasks)) r.actions) _ e_2 in
     let next : r.next < rows = test_less r.next rows (second_of_both (is_sound_expiry kind r.expiry) _ e_3) in
     λ i. record {
@@ -207,5 +202,5 @@ row_again_of tasks kind rows name k r d few e =
       next = value_again r.next (small rows few r.next next) i;
     }
   where
-    small : (a : ℕ) → a ≤ 64 → (b : ℕ) → b < a → b < 10 ^ 10
+    small : (a : ℕ) → a < 10 ^ 10 → (b : ℕ) → b < a → b < 10 ^ 10
     small a h b l = omega arith

@@ -8,6 +8,7 @@ use Rattle.step_tables.specs.declared.tables.Row.{Row}
 use Rattle.step_tables.specs.declared.tables.TaskDef.{TaskDef}
 use Rattle.step_tables.specs.Words.{is_name}
 use Rattle.step_tables.specs.Sound.{within, is_sound_kind, is_sound_row, is_sound_task}
+use Rattle.step_tables.specs.Limits.{most_rows}
 use Rattle.step_tables.specs.Judging.{rows_made, with_row_at_end}
 use Rattle.step_tables.proofs.Steps.{chose}
 
@@ -27,7 +28,7 @@ second_of_both false b e = absurd (cc)
 pub record IsTaskOf (workers c : ℕ) (t : TaskDef) : Type 0 where
   pub name : is_name t.name ≡ true
   pub kind : is_sound_kind workers t.kind ≡ true
-  pub count : within 1 64 c ≡ true
+  pub count : within 1 most_rows c ≡ true
 
 -- its rows so far, among n tasks
 abbrev pub SoundRows : ℕ → ℕ → TaskDef → Type 0
@@ -50,7 +51,7 @@ Filled workers n (suc at) [] cs = ⊥
 Filled workers n (suc at) (t ∷ ts) [] = ⊥
 Filled workers n (suc at) (t ∷ ts) (c ∷ cs) = IsTaskOf workers c t × SoundRows n c t × (length t.rows ≡ c) × Filled workers n at ts cs
 
-within_some : (c : ℕ) → within 1 64 c ≡ true → 1 ≤ c
+within_some : (c : ℕ) → within 1 most_rows c ≡ true → 1 ≤ c
 within_some c e = grind (arith, nat_tests)
 
 no_rows : (rs : List Row) → length rs ≡ 0 → rs ≡ []
@@ -139,6 +140,6 @@ all_filled workers n (suc at) (t ∷ ts) [] f e = absurd f
 all_filled workers n (suc at) (t ∷ ts) (c ∷ cs) f e =
     both _ _
     (both _ _ f.0.name (both _ _ f.0.kind (both _ _
-    (ap (within 1 64) f.2 ∙ f.0.count)
+    (ap (within 1 most_rows) f.2 ∙ f.0.count)
     (ap (λ k. list_all (is_sound_row n t.kind k) t.rows) f.2 ∙ f.1))))
     (all_filled workers n at ts cs f.3 (omega arith))

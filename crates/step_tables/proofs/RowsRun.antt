@@ -15,12 +15,14 @@ use Rattle.step_tables.specs.Words.{Word, is_name}
 use Rattle.step_tables.specs.Shapes.{row}
 use Rattle.step_tables.specs.Text.{order_words, delay_words, said_words, name_at, order_said, delay_said, row_said, rows_said, names_of}
 use Rattle.step_tables.specs.Sound.{within, is_sound_action, is_sound_expiry, is_sound_kind, is_sound_row, is_sound_task, distinct_names}
+use Rattle.step_tables.specs.Limits.{most_rows, most_actions}
 use Rattle.step_tables.specs.Judging.{all_rows, due, promised, value, no_number, delay_no_number, unknown, wrong_target, barred, with_row_at_end, with_row, with_line}
 use Rattle.step_tables.proofs.RowsOf.{both, first_of_both, second_of_both}
 use Rattle.step_tables.proofs.NameAt.{name_there}
 use Rattle.step_tables.proofs.Good.{inside_get}
 use Rattle.step_tables.proofs.WordsAgain.{is_word, are_words, number_is_word, is_number, value_again, name_is_word}
 use Rattle.step_tables.proofs.RunAgain.{Passes, Runs, runs_then, no_kind, both_false}
+use Rattle.step_tables.proofs.Bounds.{within_most, rows_small}
 use Rattle.step_tables.proofs.TasksAgain.{base, bare, lens, bare_names}
 use Rattle.step_tables.proofs.RowsAgain.{known_again, name_fine, orders_fine, orders_known, orders_are_words, delay_number, delay_inside, delay_allowed, delay_are_words, row_line_of, row_again_of, test_less, same_word, chosen_then}
 
@@ -33,7 +35,7 @@ pub record RowNow (p : Progress) (u : TaskDef) (rows : ℕ) (r : Row) : Type 0 w
   pub distinct : distinct_names (names_of p.tasks) ≡ true
   pub fine : list_all is_name (names_of p.tasks) ≡ true
   pub sound : is_sound_row (length p.tasks) u.kind rows r ≡ true
-  pub few : rows ≤ 64
+  pub few : rows < 10 ^ 10
   pub more : length u.rows < rows
 
 due_name : (p : Progress) (u : TaskDef) → due p ≡ Some u → name_at (names_of p.tasks) p.at ≡ u.name
@@ -45,16 +47,16 @@ equal_test a b e = grind (arith, nat_tests)
 below_test : (a b : ℕ) → a < b → nat_le b a ≡ false
 below_test a b e = grind (arith, nat_tests)
 
-few_test : (n : ℕ) → nat_le n 16 ≡ true → nat_lt 16 n ≡ false
-few_test n e = grind (arith, nat_tests)
+few_test : (n high : ℕ) → nat_le n high ≡ true → nat_lt high n ≡ false
+few_test n high e = grind (arith, nat_tests)
 
-small_below : (a b : ℕ) → a ≤ 64 → b < a → b < 10 ^ 10
+small_below : (a b : ℕ) → a < 10 ^ 10 → b < a → b < 10 ^ 10
 small_below a b h k = omega arith
 
-row_words : (tasks : List TaskDef) (kind : Kind) (rows : ℕ) (name : Word) (k : ℕ) (r : Row) → list_all is_name (names_of tasks) ≡ true → rows ≤ 64 → k < 10 ^ 10 → is_name name ≡ true → is_sound_row (length tasks) kind rows r ≡ true
+row_words : (tasks : List TaskDef) (kind : Kind) (rows : ℕ) (name : Word) (k : ℕ) (r : Row) → list_all is_name (names_of tasks) ≡ true → rows < 10 ^ 10 → k < 10 ^ 10 → is_name name ≡ true → is_sound_row (length tasks) kind rows r ≡ true
     → are_words (said_words (row (row_line_of (names_of tasks) name k r))) ≡ true
 row_words tasks kind rows name k r fine few small named e =
-    let e_2 = second_of_both (nat_le (length r.actions) 16) _ e in
+    let e_2 = second_of_both (nat_le (length r.actions) most_actions) _ e in
     let e_3 = second_of_both (list_all (is_sound_action (length tasks)) r.actions) _ e_2 in
     let next : r.next < rows = test_less r.next rows (second_of_both (is_sound_expiry kind r.expiry) _ e_3) in
     both true _ refl (both _ _ (name_is_word name named) (both _ _ (number_is_word k small)
@@ -67,7 +69,7 @@ row_words tasks kind rows name k r fine few small named e =
 row_passes : (p : Progress) (u : TaskDef) (rows : ℕ) (r : Row) → RowNow p u rows r → Passes p (row (row_line_of (names_of p.tasks) u.name (length u.rows) r))
 row_passes p u rows r now =
     let e = now.sound in
-    let e_2 = second_of_both (nat_le (length r.actions) 16) _ e in
+    let e_2 = second_of_both (nat_le (length r.actions) most_actions) _ e in
     let actions = first_of_both (list_all (is_sound_action (length p.tasks)) r.actions) _ e_2 in
     let e_3 = second_of_both (list_all (is_sound_action (length p.tasks)) r.actions) _ e_2 in
     let expiry = first_of_both (is_sound_expiry u.kind r.expiry) _ e_3 in
@@ -89,7 +91,7 @@ row_passes p u rows r now =
           (both_false (not (value (decimal (length u.rows)) == length u.rows)) _ (equal_test _ _ (value_again (length u.rows) k_small))
           ((λ i. nat_le (now.promise i) (value_again r.next next_small i)) ∙ below_test r.next rows next)))
           (no_kind _ kinds.ExpiryBarred _ (ap (λ d. barred d (delay_said r.expiry)) now.is_due ∙ delay_allowed u.kind r.expiry expiry)
-          (no_kind _ kinds.LimitPassed None (both_false (nat_lt 16 (length (map (order_said (names_of p.tasks)) r.actions))) _ (ap (nat_lt 16) (length-map r.actions (order_said (names_of p.tasks))) ∙ few_test (length r.actions) (first_of_both (nat_le (length r.actions) 16) _ e)) (delay_inside u.kind r.expiry expiry)) refl))));
+          (no_kind _ kinds.LimitPassed None (both_false (nat_lt most_actions (length (map (order_said (names_of p.tasks)) r.actions))) _ (ap (nat_lt most_actions) (length-map r.actions (order_said (names_of p.tasks))) ∙ few_test (length r.actions) most_actions (first_of_both (nat_le (length r.actions) most_actions) _ e)) (delay_inside u.kind r.expiry expiry)) refl))));
     }
 
 -- and adds itself
@@ -134,7 +136,7 @@ amid_length done t rs rest =
     let c = length-map rest bare in
     omega arith
 
-row_now : (s : Script) (done : List TaskDef) (t : TaskDef) (rs : List Row) (rest : List TaskDef) (r : Row) → Fine (done ++ t ∷ rest) → is_sound_row (length (done ++ t ∷ rest)) t.kind (length t.rows) r ≡ true → length t.rows ≤ 64 → length rs < length t.rows
+row_now : (s : Script) (done : List TaskDef) (t : TaskDef) (rs : List Row) (rest : List TaskDef) (r : Row) → Fine (done ++ t ∷ rest) → is_sound_row (length (done ++ t ∷ rest)) t.kind (length t.rows) r ≡ true → length t.rows < 10 ^ 10 → length rs < length t.rows
     → RowNow (amid s done t rs rest) (record t { rows = rs }) (length t.rows) r
 row_now s done t rs rest r fine sound few more = record {
   unended = refl;
@@ -151,7 +153,7 @@ row_now s done t rs rest r fine sound few more = record {
     fewer : (a b : ℕ) → a < b → (a == b) ≡ false
     fewer a b h = grind (arith, nat_tests)
 
-row_amid : (s : Script) (done : List TaskDef) (t : TaskDef) (rs : List Row) (rest : List TaskDef) (r : Row) → Fine (done ++ t ∷ rest) → is_sound_row (length (done ++ t ∷ rest)) t.kind (length t.rows) r ≡ true → length t.rows ≤ 64 → length rs < length t.rows
+row_amid : (s : Script) (done : List TaskDef) (t : TaskDef) (rs : List Row) (rest : List TaskDef) (r : Row) → Fine (done ++ t ∷ rest) → is_sound_row (length (done ++ t ∷ rest)) t.kind (length t.rows) r ≡ true → length t.rows < 10 ^ 10 → length rs < length t.rows
     → Passes (amid s done t rs rest) (row_said (names_of (done ++ t ∷ rest)) t.name (length rs) r)
     × (with_line (amid s done t rs rest) (row_said (names_of (done ++ t ∷ rest)) t.name (length rs) r)
     ≡ base s (done ++ record t { rows = rs ++ r ∷ [] } ∷ map bare rest) (lens (done ++ t ∷ rest)) (if length rs + 1 == length t.rows then length done + 1 else length done) [])
@@ -197,7 +199,7 @@ not_last_row s done t rs rest r h =
 
 -- the rows of a task, from one on
 row_run : (s : Script) (done : List TaskDef) (t : TaskDef) (rs : List Row) (rest : List TaskDef) (r : Row) (more : List Row) → t.rows ≡ rs ++ r ∷ more → Fine (done ++ t ∷ rest)
-    → list_all (is_sound_row (length (done ++ t ∷ rest)) t.kind (length t.rows)) (r ∷ more) ≡ true → length t.rows ≤ 64
+    → list_all (is_sound_row (length (done ++ t ∷ rest)) t.kind (length t.rows)) (r ∷ more) ≡ true → length t.rows < 10 ^ 10
     → Runs (amid s done t rs rest) (rows_said (names_of (done ++ t ∷ rest)) t.name (length rs) (r ∷ more)) (between s (done ++ t ∷ []) rest)
 unfolding rows_said
 row_run s done t rs rest r [] e fine sound few =
@@ -220,13 +222,10 @@ task_rows_run : (s : Script) (done : List TaskDef) (t : TaskDef) (rest : List Ta
 task_rows_run s done t rest fine sound =
     let e_2 = second_of_both (is_name t.name) _ sound in
     let e_3 = second_of_both (is_sound_kind s.workers t.kind) _ e_2 in
-    let count = some_few (length t.rows) (first_of_both (within 1 64 (length t.rows)) _ e_3) in
-    go t.rows refl count.0 count.1 (second_of_both (within 1 64 (length t.rows)) _ e_3)
+    let count = first_of_both (within 1 most_rows (length t.rows)) _ e_3 in
+    go t.rows refl (within_most 1 most_rows (length t.rows) count).0 (rows_small (length t.rows) count) (second_of_both (within 1 most_rows (length t.rows)) _ e_3)
   where
-    some_few : (n : ℕ) → within 1 64 n ≡ true → (1 ≤ n) × (n ≤ 64)
-    some_few n e = grind (arith, nat_tests)
-
-    go : (rows : List Row) → t.rows ≡ rows → 1 ≤ length t.rows → length t.rows ≤ 64 → list_all (is_sound_row (length (done ++ t ∷ rest)) t.kind (length t.rows)) t.rows ≡ true
+    go : (rows : List Row) → t.rows ≡ rows → 1 ≤ length t.rows → length t.rows < 10 ^ 10 → list_all (is_sound_row (length (done ++ t ∷ rest)) t.kind (length t.rows)) t.rows ≡ true
         → Runs (between s done (t ∷ rest)) (rows_said (names_of (done ++ t ∷ rest)) t.name 0 t.rows) (between s (done ++ t ∷ []) rest)
     go [] e some few all = absurd (let none = ap length e in omega arith)
     go (r ∷ more) e some few all =

@@ -1,6 +1,6 @@
 -- Lines that pass are taken one after another.
 use Rattle.std.proofs.Common.{◌≡◌, ℕ, ◌+◌, ◌-◌, ◌^◌, ◌<◌, Bool, true, false, cond, List, [], ◌∷◌, ◌++◌, map, refl, ap, sym, ◌∙◌, arith, subst, append_assoc, inl, inr, eqb-true}
-use Rattle.std.specs.Prelude.{Option, Some, None, Ok, Err, codes, ◌||◌, ◌==◌, decimal}
+use Rattle.std.specs.Prelude.{Option, Some, None, Ok, Err, ◌||◌, ◌==◌, decimal}
 use Rattle.std.specs.List.{join_with_byte, list_all}
 use Rattle.std.proofs.lemmas.Bool.{cases_Bool}
 use Rattle.std.proofs.lemmas.Bool.Decides.{nat_tests}
@@ -12,7 +12,9 @@ use Rattle.step_tables.specs.declared.shapes.Setting.TheVariants.{Workers, Depth
 use Rattle.step_tables.specs.Words.{Word, ◌>>=◌, pieces, is_empty, words_of}
 use Rattle.step_tables.specs.Shapes.{Said, sets, task, row, event, ends, setting_name}
 use Rattle.step_tables.specs.Text.{header_of, said_words, lines_text}
+use Rattle.step_tables.specs.Limits.{newest, limits_of}
 use Rattle.step_tables.specs.Judging.{version_of, judge_header, first_fault, tests, may_come, outside, least, most, nothing, with_setting, with_line, judge_tested, judge_said, setting_at, said_in, said_of, judge, at_line, taken, closed, go_on, judged, script_from}
+use Rattle.step_tables.proofs.Bounds.{inside_small}
 use Rattle.step_tables.proofs.Back.{IsBody}
 use Rattle.step_tables.proofs.Steps.{judged_more}
 use Rattle.step_tables.proofs.Walk.{get_past}
@@ -126,18 +128,19 @@ setting_said_again n setting v at small =
     ∙ setting_again setting (decimal v)
 
 pub setting_step : (n : ℕ) (setting : Setting) (v : ℕ) (p : Progress) (lines : List (List ℕ)) → 1 < n → setting_at n ≡ Some setting → p.ended ≡ false
-    → outside (least setting) (most setting) v ≡ false → v < 10 ^ 10 → is_empty lines ≡ false
+    → outside (least setting) (most (limits_of p.version) setting) v ≡ false → is_empty lines ≡ false
     → judged None n p (bytes_of (sets setting (decimal v)) ∷ lines) ≡ judged None (n + 1) (with_setting p setting v) lines
 unfolding with_line
-setting_step n setting v p lines later at unended range small some =
+setting_step n setting v p lines later at unended range some =
+    let small = inside_small p.version setting v range in
     judged_more None n p (bytes_of (sets setting (decimal v))) lines some
     ∙ ap (λ t. go_on t (λ k. judged None (n + 1) k lines))
     (taken_said n p (sets setting (decimal v)) later unended (setting_said_again n setting v at small) refl
-    (no_kind _ kinds.Number _ (is_number v small) (no_kind _ kinds.LimitPassed None (ap (outside (least setting) (most setting)) (value_again v small) ∙ range) refl)))
+    (no_kind _ kinds.Number _ (is_number v small) (no_kind _ kinds.LimitPassed None (ap (outside (least setting) (most (limits_of p.version) setting)) (value_again v small) ∙ range) refl)))
     ∙ ap (λ m. judged None (n + 1) (with_setting p setting m) lines) (value_again v small)
 
 -- the first line
-header_again : (version : ℕ) → within 1 2 version ≡ true → version_of (header_of version) ≡ Some version
+header_again : (version : ℕ) → within 1 newest version ≡ true → version_of (header_of version) ≡ Some version
 unfolding header_of version_of
 header_again version e =
     elim (cases_Bool (version == 2)) [
@@ -145,14 +148,14 @@ header_again version e =
       | inr k ↦ rw k (ap Some (one version e k))
     ]
   where
-    one : (n : ℕ) → within 1 2 n ≡ true → (n == 2) ≡ false → 1 ≡ n
+    one : (n : ℕ) → within 1 newest n ≡ true → (n == 2) ≡ false → 1 ≡ n
     one n e k = grind (arith, nat_tests)
 
-header_taken : (version : ℕ) → within 1 2 version ≡ true → taken None 1 nothing (header_of version) ≡ Ok (record nothing { version = version })
+header_taken : (version : ℕ) → within 1 newest version ≡ true → taken None 1 nothing (header_of version) ≡ Ok (record nothing { version = version })
 unfolding taken judge judge_header
 header_taken version e = ap (λ o. at_line 1 (judge_header nothing o)) (header_again version e)
 
-pub header_step : (version : ℕ) → within 1 2 version ≡ true → (lines : List (List ℕ)) → is_empty lines ≡ false → judged None 1 nothing (header_of version ∷ lines) ≡ judged None 2 (record nothing { version = version }) lines
+pub header_step : (version : ℕ) → within 1 newest version ≡ true → (lines : List (List ℕ)) → is_empty lines ≡ false → judged None 1 nothing (header_of version ∷ lines) ≡ judged None 2 (record nothing { version = version }) lines
 header_step version e lines some =
     judged_more None 1 nothing (header_of version) lines some
     ∙ ap (λ t. go_on t (λ k. judged None 2 k lines)) (header_taken version e)

@@ -12,6 +12,7 @@ use Rattle.step_tables.specs.Words.{Word, reasons_of, is_name}
 use Rattle.text_lines.proofs.ReasonsAgain as lists
 use Rattle.step_tables.specs.Shapes.{Order, wakes, kills, Delay, keeps, after, never, Place, pinned, shared, tasklet, TaskLine, RowLine, EventLine}
 use Rattle.step_tables.specs.Sound.{within, is_nice, is_sound_action, is_sound_expiry, is_sound_kind, is_sound_row}
+use Rattle.step_tables.specs.Limits.{most_rows, most_actions, most_delay}
 use Rattle.step_tables.specs.Judging.{value, signed_value, outside, outside_nice, place_outside, delay_outside, named, unknown, order_name, number_named, reasons_named, action_of, expiry_of, kind_of, task_of, row_of, event_of, barred, is_timerless, is_expiry, promised}
 use Rattle.step_tables.proofs.Back.{IsOrder, AreOrders}
 use Rattle.step_tables.proofs.Good.{neither, GoodRow, GoodEvent, GoodTask}
@@ -59,7 +60,7 @@ sound_actions tasks (o ∷ os) are known = let (first, others) = neither _ _ kno
 sound_expiry : (kind : Kind) (delay : Delay) → (is_timerless kind && is_expiry delay) ≡ false → delay_outside delay ≡ false → is_sound_expiry kind (expiry_of delay) ≡ true
 unfolding expiry_of delay_outside
 sound_expiry kind keeps barred_ range = refl
-sound_expiry (Pinned home nice) (after w) barred_ range = not_outside 1 1073741824 (value w) range
+sound_expiry (Pinned home nice) (after w) barred_ range = not_outside 1 most_delay (value w) range
 sound_expiry (Pinned home nice) never barred_ range = refl
 sound_expiry (Shared nice) (after w) barred_ range = absurd (cc)
 sound_expiry (Shared nice) never barred_ range = absurd (cc)
@@ -70,12 +71,12 @@ sound_expiry (Tasklet home class) never barred_ range = absurd (cc)
 pub sound_row : (p : Progress) (line : RowLine) (good : GoodRow p line) → AreOrders line.orders → is_sound_row (length p.tasks) good.task.kind (promised p) (row_of p.tasks line) ≡ true
 unfolding row_of
 sound_row p line good are =
-    let few : nat_le (length (map (action_of p.tasks) line.orders)) 16 ≡ true = ap (λ n. nat_le n 16) (length-map line.orders (action_of p.tasks)) ∙ at_most _ good.few in
+    let few : nat_le (length (map (action_of p.tasks) line.orders)) most_actions ≡ true = ap (λ n. nat_le n most_actions) (length-map line.orders (action_of p.tasks)) ∙ at_most _ most_actions good.few in
     let expiry : (is_timerless good.task.kind && is_expiry line.delay) ≡ false = ap (λ d. barred d line.delay) (sym good.target.is_due) ∙ good.expiry in
     both _ _ few (both _ _ (sound_actions p.tasks line.orders are good.known) (both _ _ (sound_expiry good.task.kind line.delay expiry good.ticks) (below _ _ good.target.next)))
   where
-    at_most : (n : ℕ) → nat_lt 16 n ≡ false → nat_le n 16 ≡ true
-    at_most n e = grind (arith, nat_tests)
+    at_most : (n high : ℕ) → nat_lt high n ≡ false → nat_le n high ≡ true
+    at_most n high e = grind (arith, nat_tests)
 
     below : (a b : ℕ) → a < b → nat_lt a b ≡ true
     below a b h = grind (arith, nat_tests)
@@ -83,7 +84,7 @@ sound_row p line good are =
 -- a good task line makes a task in range
 pub sound_task : (p : Progress) (line : TaskLine) → GoodTask p line → is_name line.name ≡ true → IsTaskOf p.workers (value line.rows) (task_of line)
 unfolding task_of kind_of place_outside
-sound_task p line good name = record { name = name; kind = sound_kind line.place good.place; count = not_outside 1 64 (value line.rows) good.rows }
+sound_task p line good name = record { name = name; kind = sound_kind line.place good.place; count = not_outside 1 most_rows (value line.rows) good.rows }
   where
     sound_kind : (place : Place) → place_outside p.workers place ≡ false → is_sound_kind p.workers (kind_of place) ≡ true
     sound_kind (pinned home nice) e = let (a, b) = neither (nat_le p.workers (value home)) (outside_nice (signed_value nice)) e in both (nat_lt (value home) p.workers) (is_nice (signed_value nice)) (not_le p.workers (value home) a) (not_outside_nice (signed_value nice) b)

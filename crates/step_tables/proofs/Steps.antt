@@ -1,20 +1,16 @@
 -- What is known of a line that was taken.
-use Rattle.std.proofs.Common.{◌≡◌, ℕ, ◌+◌, ◌≤◌, ◌<◌, Bool, true, false, cond, List, [], ◌∷◌, length, refl, arith, inl, inr, ap, ◌⊎◌, subst, length-append}
-use Rattle.std.specs.Prelude.{Option, Some, None, Result, Ok, Err, codes, bytes_eq, ◌==◌, nat_le}
+use Rattle.std.proofs.Common.{◌≡◌, ℕ, ◌+◌, Bool, true, false, cond, List, [], ◌∷◌, refl, inl, inr, ◌⊎◌, subst}
+use Rattle.std.specs.Prelude.{Option, Some, None, Result, Ok, Err, codes, bytes_eq, ◌==◌}
 use Rattle.std.proofs.lemmas.Bool.{eqb-true}
-use Rattle.std.proofs.lemmas.Bool.Decides.{nat_tests}
-use Rattle.std.proofs.Math.ListN.{length-set}
 use Rattle.step_tables.specs.declared.faults.FaultKind.{FaultKind}
-use Rattle.step_tables.specs.declared.tables.TaskDef.{TaskDef}
 use Rattle.step_tables.specs.declared.progress.Progress.{Progress}
-use Rattle.step_tables.specs.declared.shapes.Setting.TheVariants.{Workers, Depth, Start, Step, Rounds}
 use Rattle.step_tables.specs.Words.{is_empty}
+use Rattle.step_tables.specs.Limits.{newest}
 use Rattle.step_tables.specs.Text.{header_of}
 use Rattle.step_tables.specs.Sound.{within}
-use Rattle.step_tables.specs.Shapes.{Said, sets, task, row, event, ends}
-use Rattle.step_tables.specs.Judging.{version_of, judge_header, first_fault, tests, may_come, due, with_setting, with_task, with_row, with_event, with_line, row_of, judge_tested, judge_said, said_of, judge, at_line, taken, is_line, go_on, judged}
+use Rattle.step_tables.specs.Shapes.{Said}
+use Rattle.step_tables.specs.Judging.{version_of, judge_header, first_fault, tests, may_come, with_line, judge_tested, judge_said, said_of, judge, at_line, taken, is_line, go_on, judged}
 use Rattle.step_tables.proofs.Back.{bytes_same}
-use Rattle.step_tables.proofs.Good.{good_task}
 
 -- the first line
 pub record IsHeader (n : ℕ) (line : List ℕ) (p q : Progress) : Type 0 where
@@ -73,13 +69,13 @@ header_back p q None e = absurd (cc)
 header_back p q (Some v) e = (v, refl, cc)
 
 -- what the first line is, by its version
-pub header_is : (line : List ℕ) (v : ℕ) → version_of line ≡ Some v → (line ≡ header_of v) × (within 1 2 v ≡ true)
+pub header_is : (line : List ℕ) (v : ℕ) → version_of line ≡ Some v → (line ≡ header_of v) × (within 1 newest v ≡ true)
 unfolding version_of header_of
 header_is line v e = elim (chose (bytes_eq line (codes "taskscript 1")) (Some 1) _ (Some v) e) [
-  | inl h ↦ (let same : 1 ≡ v = cc in subst (λ (n : ℕ). (line ≡ header_of n) × (within 1 2 n ≡ true)) same (bytes_same line (codes "taskscript 1") h.0, refl))
+  | inl h ↦ (let same : 1 ≡ v = cc in subst (λ (n : ℕ). (line ≡ header_of n) × (within 1 newest n ≡ true)) same (bytes_same line (codes "taskscript 1") h.0, refl))
   | inr h ↦ (let (text, some) = chose_one (bytes_eq line (codes "taskscript 2")) (Some 2) _ (Some v) h.1 (λ k. cc) in
       let same : 2 ≡ v = cc in
-      subst (λ (n : ℕ). (line ≡ header_of n) × (within 1 2 n ≡ true)) same (bytes_same line (codes "taskscript 2") text, refl))
+      subst (λ (n : ℕ). (line ≡ header_of n) × (within 1 newest n ≡ true)) same (bytes_same line (codes "taskscript 2") text, refl))
 ]
 
 judge_back : (n : ℕ) (line : List ℕ) (p q : Progress) → judge n p line ≡ Ok q → IsHeader n line p q ⊎ IsSaid n line p q
@@ -106,35 +102,3 @@ pub judged_more : (long : Option ℕ) (n : ℕ) (p : Progress) (line : List ℕ)
 unfolding judged
 judged_more long n p line [] e = absurd (cc)
 judged_more long n p line (next ∷ lines) e = refl
-
--- at most 4,096 tasks
-few_said : (p q : Progress) (said : Said) → Adds p said q → length p.tasks ≤ 4096 → length q.tasks ≤ 4096
-unfolding with_line with_setting with_task with_row with_event
-few_said p q (sets Workers w) a few = let P : Progress → Type 0 = λ r. length r.tasks ≤ 4096 in subst P a.added few
-few_said p q (sets Depth w) a few = let P : Progress → Type 0 = λ r. length r.tasks ≤ 4096 in subst P a.added few
-few_said p q (sets Start w) a few = let P : Progress → Type 0 = λ r. length r.tasks ≤ 4096 in subst P a.added few
-few_said p q (sets Step w) a few = let P : Progress → Type 0 = λ r. length r.tasks ≤ 4096 in subst P a.added few
-few_said p q (sets Rounds w) a few = let P : Progress → Type 0 = λ r. length r.tasks ≤ 4096 in subst P a.added few
-few_said p q (task line) a few =
-    let P : Progress → Type 0 = λ r. length r.tasks ≤ 4096 in
-    let room : length p.tasks < 4096 = below _ _ (good_task p line a.good).few in
-    let more : length (with_task p line).tasks ≡ length p.tasks + 1 = length-append p.tasks _ in
-    subst P a.added (omega arith)
-  where
-    below : (a b : ℕ) → nat_le a b ≡ false → b < a
-    below a b h = grind (arith, nat_tests)
-few_said p q (row line) a few =
-    let P : Progress → Type 0 = λ r. length r.tasks ≤ 4096 in
-    subst P a.added (same (due p))
-  where
-    same : (d : Option TaskDef) → length (with_row p d (row_of p.tasks line)).tasks ≤ 4096
-    same None = few
-    same (Some t) = rw length-set few
-few_said p q (event line) a few = let P : Progress → Type 0 = λ r. length r.tasks ≤ 4096 in subst P a.added few
-few_said p q ends a few = let P : Progress → Type 0 = λ r. length r.tasks ≤ 4096 in subst P a.added few
-
-pub few_taken : (long : Option ℕ) (n : ℕ) (line : List ℕ) (p q : Progress) → taken long n p line ≡ Ok q → length p.tasks ≤ 4096 → length q.tasks ≤ 4096
-few_taken long n line p q e few = elim ((taken_back long n line p q e).what) [
-  | inl h ↦ (let P : Progress → Type 0 = λ r. length r.tasks ≤ 4096 in subst P h.same few)
-  | inr h ↦ few_said p q h.said h.adds few
-]

@@ -17,10 +17,12 @@ use Rattle.step_tables.specs.Words.{Word, is_name}
 use Rattle.step_tables.specs.Shapes.{Place, pinned, shared, tasklet}
 use Rattle.step_tables.specs.Text.{init_words, place_words, task_word, said_words, place_said, task_said, names_of}
 use Rattle.step_tables.specs.Sound.{within, is_nice, is_sound_kind, is_sound_task, distinct_names}
+use Rattle.step_tables.specs.Limits.{limits_of, most_rows}
 use Rattle.step_tables.specs.Judging.{rows_made, value, signed_value, outside, outside_nice, place_no_number, place_outside, named, unknown, kind_of, task_of, with_task, with_line}
 use Rattle.step_tables.proofs.RowsOf.{both, first_of_both, second_of_both}
 use Rattle.step_tables.proofs.Good.{neither}
 use Rattle.step_tables.proofs.WordsAgain.{is_word, are_words, size, number_is_word, is_number, value_again, signed_is_word, is_signed, signed_value_again, name_is_word, class_is_word}
+use Rattle.step_tables.proofs.Bounds.{within_outside, rows_small}
 use Rattle.step_tables.proofs.RunAgain.{Passes, Runs, no_kind, both_false}
 
 -- what is read so far, of a script's settings and these parts
@@ -54,26 +56,23 @@ nice_inside z e = step (int_lt z (negsuc 1023)) (int_lt (pos 1024) z) e
     step false true h = absurd (cc)
     step false false h = refl
 
-pub within_outside : (low high n : ℕ) → within low high n ≡ true → outside low high n ≡ false
-within_outside low high n e = grind (arith, nat_tests)
-
 home_below : (home workers : ℕ) → nat_lt home workers ≡ true → nat_le workers home ≡ false
 home_below home workers e = grind (arith, nat_tests)
 
-home_small : (home workers : ℕ) → nat_lt home workers ≡ true → workers ≤ 16 → home < 10 ^ 10
+home_small : (home workers : ℕ) → nat_lt home workers ≡ true → workers < 10 ^ 10 → home < 10 ^ 10
 home_small home workers e h = let less = below home workers e in omega arith
   where
     below : (a b : ℕ) → nat_lt a b ≡ true → a < b
     below a b f = grind (arith, nat_tests)
 
 -- the place of a kind in range
-place_numbers : (workers : ℕ) (kind : Kind) → workers ≤ 16 → is_sound_kind workers kind ≡ true → place_no_number (place_said kind) ≡ false
+place_numbers : (workers : ℕ) (kind : Kind) → workers < 10 ^ 10 → is_sound_kind workers kind ≡ true → place_no_number (place_said kind) ≡ false
 unfolding place_no_number place_said
 place_numbers workers (Pinned home nice) few e = both_false _ _ (is_number home (home_small home workers (first_of_both _ _ e) few)) (is_signed nice (nice_size nice (second_of_both (nat_lt home workers) _ e)))
 place_numbers workers (Shared nice) few e = is_signed nice (nice_size nice e)
 place_numbers workers (Tasklet home class) few e = is_number home (home_small home workers e few)
 
-place_inside : (workers : ℕ) (kind : Kind) → workers ≤ 16 → is_sound_kind workers kind ≡ true → place_outside workers (place_said kind) ≡ false
+place_inside : (workers : ℕ) (kind : Kind) → workers < 10 ^ 10 → is_sound_kind workers kind ≡ true → place_outside workers (place_said kind) ≡ false
 unfolding place_outside place_said
 place_inside workers (Pinned home nice) few e =
     both_false (nat_le workers (value (decimal home))) (outside_nice (signed_value (signed_decimal nice)))
@@ -82,7 +81,7 @@ place_inside workers (Pinned home nice) few e =
 place_inside workers (Shared nice) few e = ap outside_nice (signed_value_again nice (nice_size nice e)) ∙ nice_inside nice e
 place_inside workers (Tasklet home class) few e = ap (nat_le workers) (value_again home (home_small home workers e few)) ∙ home_below home workers e
 
-kind_again : (workers : ℕ) (kind : Kind) → workers ≤ 16 → is_sound_kind workers kind ≡ true → kind_of (place_said kind) ≡ kind
+kind_again : (workers : ℕ) (kind : Kind) → workers < 10 ^ 10 → is_sound_kind workers kind ≡ true → kind_of (place_said kind) ≡ kind
 unfolding kind_of place_said
 kind_again workers (Pinned home nice) few e =
     λ i. Pinned (value_again home (home_small home workers (first_of_both _ _ e) few) i) (signed_value_again nice (nice_size nice (second_of_both (nat_lt home workers) _ e)) i)
@@ -93,7 +92,7 @@ init_are_words : (b : Bool) → are_words (init_words b) ≡ true
 init_are_words true = refl
 init_are_words false = refl
 
-place_are_words : (workers : ℕ) (kind : Kind) → workers ≤ 16 → is_sound_kind workers kind ≡ true → are_words (place_words (place_said kind)) ≡ true
+place_are_words : (workers : ℕ) (kind : Kind) → workers < 10 ^ 10 → is_sound_kind workers kind ≡ true → are_words (place_words (place_said kind)) ≡ true
 unfolding place_said
 place_are_words workers (Pinned home nice) few e =
     both true _ refl (both _ _ (number_is_word home (home_small home workers (first_of_both _ _ e) few)) (both true _ refl (both _ true (signed_is_word nice (nice_size nice (second_of_both (nat_lt home workers) _ e))) refl)))
@@ -105,7 +104,7 @@ first_is_word (pinned home nice) = refl
 first_is_word (shared nice) = refl
 first_is_word (tasklet home class) = refl
 
-pub task_words : (workers : ℕ) (t : TaskDef) (n : ℕ) → workers ≤ 16 → is_name t.name ≡ true → is_sound_kind workers t.kind ≡ true → n < 10 ^ 10 → are_words (said_words (task_said t n)) ≡ true
+pub task_words : (workers : ℕ) (t : TaskDef) (n : ℕ) → workers < 10 ^ 10 → is_name t.name ≡ true → is_sound_kind workers t.kind ≡ true → n < 10 ^ 10 → are_words (said_words (task_said t n)) ≡ true
 unfolding task_said
 task_words workers t n few name kind small =
     both _ _ (first_is_word (place_said t.kind)) (both _ _ (name_is_word t.name name)
@@ -168,11 +167,11 @@ none_started (t ∷ ts) = refl
 is_test : (a b : ℕ) → a ≡ b → (a == b) ≡ true
 is_test a b e = grind (arith, nat_tests)
 
-few_test : (n : ℕ) → n < 4096 → nat_le 4096 n ≡ false
-few_test n h = grind (arith, nat_tests)
+few_test : (n most : ℕ) → n < most → nat_le most n ≡ false
+few_test n most h = grind (arith, nat_tests)
 
 -- a task line adds its task
-task_added : (s : Script) (done : List TaskDef) (t : TaskDef) → s.workers ≤ 16 → is_sound_kind s.workers t.kind ≡ true → length t.rows < 10 ^ 10
+task_added : (s : Script) (done : List TaskDef) (t : TaskDef) → s.workers < 10 ^ 10 → is_sound_kind s.workers t.kind ≡ true → length t.rows < 10 ^ 10
     → with_line (after_tasks s done) (task_said t (length t.rows)) ≡ after_tasks s (done ++ t ∷ [])
 unfolding with_line with_task task_said task_of
 task_added s done t few kind small =
@@ -182,8 +181,8 @@ task_added s done t few kind small =
     0 []
 
 -- a task line passes
-task_passes : (s : Script) (done : List TaskDef) (t : TaskDef) (rest : List TaskDef) → s.workers ≤ 16 → is_name t.name ≡ true → is_sound_kind s.workers t.kind ≡ true → within 1 64 (length t.rows) ≡ true → length t.rows < 10 ^ 10
-    → distinct_names (names_of (done ++ t ∷ rest)) ≡ true → length done < 4096 → Passes (after_tasks s done) (task_said t (length t.rows))
+task_passes : (s : Script) (done : List TaskDef) (t : TaskDef) (rest : List TaskDef) → s.workers < 10 ^ 10 → is_name t.name ≡ true → is_sound_kind s.workers t.kind ≡ true → within 1 most_rows (length t.rows) ≡ true → length t.rows < 10 ^ 10
+    → distinct_names (names_of (done ++ t ∷ rest)) ≡ true → length done < (limits_of s.version).tasks → Passes (after_tasks s done) (task_said t (length t.rows))
 unfolding task_said
 task_passes s done t rest few name kind count small distinct room = record {
   unended = refl;
@@ -195,8 +194,8 @@ task_passes s done t rest few name kind count small distinct room = record {
       (no_kind _ kinds.TwiceNamed _ (ap not (fresh_name (map bare done) t.name (ap (list_any (λ other. bytes_eq other t.name)) (bare_names done) ∙ new_name (names_of done) t.name (names_of rest) (ap distinct_names (sym (map-append (λ u. u.name) done (t ∷ rest))) ∙ distinct))))
       (no_kind _ kinds.LimitPassed None
       (both_false (place_outside s.workers (place_said t.kind)) _ (place_inside s.workers t.kind few kind)
-      (both_false (outside 1 64 (value (decimal (length t.rows)))) _ (ap (outside 1 64) (value_again (length t.rows) small) ∙ within_outside 1 64 (length t.rows) count)
-      (ap (nat_le 4096) (length-map done bare) ∙ few_test (length done) room)))
+      (both_false (outside 1 most_rows (value (decimal (length t.rows)))) _ (ap (outside 1 most_rows) (value_again (length t.rows) small) ∙ within_outside 1 most_rows (length t.rows) count)
+      (ap (nat_le (limits_of s.version).tasks) (length-map done bare) ∙ few_test (length done) (limits_of s.version).tasks room)))
       refl));
 }
   where
@@ -204,7 +203,7 @@ task_passes s done t rest few name kind count small distinct room = record {
     words_of_task = task_words s.workers t (length t.rows) few name kind small
 
 -- the task lines pass, one after another
-pub tasks_run : (s : Script) (n : ℕ) (done rest : List TaskDef) → s.workers ≤ 16 → list_all (is_sound_task s.workers n) rest ≡ true → distinct_names (names_of (done ++ rest)) ≡ true → length (done ++ rest) ≤ 4096
+pub tasks_run : (s : Script) (n : ℕ) (done rest : List TaskDef) → s.workers < 10 ^ 10 → list_all (is_sound_task s.workers n) rest ≡ true → distinct_names (names_of (done ++ rest)) ≡ true → length (done ++ rest) ≤ (limits_of s.version).tasks
     → Runs (after_tasks s done) (map (λ t. task_said t (length t.rows)) rest) (after_tasks s (done ++ rest))
 tasks_run s n done [] few sound distinct room = ap (after_tasks s) (sym (append-nil done))
 tasks_run s n done (t ∷ rest) few sound distinct room =
@@ -212,20 +211,14 @@ tasks_run s n done (t ∷ rest) few sound distinct room =
     let name = first_of_both (is_name t.name) _ is in
     let e_2 = second_of_both (is_name t.name) _ is in
     let kind = first_of_both (is_sound_kind s.workers t.kind) _ e_2 in
-    let count = first_of_both (within 1 64 (length t.rows)) _ (second_of_both (is_sound_kind s.workers t.kind) _ e_2) in
-    let small : length t.rows < 10 ^ 10 = at_most_64 (length t.rows) count in
+    let count = first_of_both (within 1 most_rows (length t.rows)) _ (second_of_both (is_sound_kind s.workers t.kind) _ e_2) in
+    let small : length t.rows < 10 ^ 10 = rows_small (length t.rows) count in
     let long : length (done ++ t ∷ rest) ≡ length done + suc (length rest) = length-append done (t ∷ rest) in
-    let less : length done < 4096 = omega arith in
+    let less : length done < (limits_of s.version).tasks = omega arith in
     let next : done ++ t ∷ rest ≡ (done ++ t ∷ []) ++ rest = sym (append_assoc done (t ∷ []) rest) in (
       task_passes s done t rest few name kind count small distinct less,
       subst (λ p. Runs p (map (λ u. task_said u (length u.rows)) rest) (after_tasks s (done ++ t ∷ rest))) (sym (task_added s done t few kind small))
           (subst (λ all. Runs (after_tasks s (done ++ t ∷ [])) (map (λ u. task_said u (length u.rows)) rest) (after_tasks s all)) (sym next)
           (tasks_run s n (done ++ t ∷ []) rest few (second_of_both (is_sound_task s.workers n t) _ sound)
-          (ap (λ all. distinct_names (names_of all)) (sym next) ∙ distinct) (subst (λ all. length all ≤ 4096) next room))),
+          (ap (λ all. distinct_names (names_of all)) (sym next) ∙ distinct) (subst (λ all. length all ≤ (limits_of s.version).tasks) next room))),
     )
-  where
-    at_most_64 : (k : ℕ) → within 1 64 k ≡ true → k < 10 ^ 10
-    at_most_64 k e = let h = most k e in omega arith
-      where
-        most : (j : ℕ) → within 1 64 j ≡ true → j ≤ 64
-        most j f = grind (arith, nat_tests)

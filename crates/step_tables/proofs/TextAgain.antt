@@ -1,6 +1,6 @@
 -- The text of a script in range is read as that script.
 use Rattle.std.proofs.Common.{◌≡◌, ℕ, suc, ◌+◌, ◌^◌, ◌≤◌, ◌<◌, true, false, cond, List, [], ◌∷◌, ◌++◌, map, length, take, refl, ap, sym, ◌∙◌, arith, subst, append_assoc, append-nil, length-append, lit<, inl, inr}
-use Rattle.std.specs.Prelude.{Some, None, Ok, not, codes, ◌==◌, nat_lt, nat_le, decimal, count_by, flat_map}
+use Rattle.std.specs.Prelude.{Some, None, Ok, not, ◌==◌, nat_lt, nat_le, decimal, count_by, flat_map}
 use Rattle.std.specs.List.{list_all}
 use Rattle.std.proofs.lemmas.Bool.{cases_Bool}
 use Rattle.std.proofs.lemmas.Bool.Decides.{nat_tests}
@@ -11,17 +11,20 @@ use Rattle.step_tables.specs.declared.tables.TaskDef.{TaskDef}
 use Rattle.step_tables.specs.declared.tables.Event.{Event}
 use Rattle.step_tables.specs.declared.tables.Script.{Script}
 use Rattle.step_tables.specs.declared.progress.Progress.{Progress}
+use Rattle.step_tables.specs.declared.shapes.Setting.{Setting}
 use Rattle.step_tables.specs.declared.shapes.Setting.TheVariants.{Workers, Depth, Start, Step, Rounds}
 use Rattle.step_tables.specs.Words.{pieces, is_empty, is_name}
 use Rattle.step_tables.specs.Shapes.{Said, sets, ends}
 use Rattle.step_tables.specs.Text.{header_of, said_words, task_said, rows_said, event_said, names_of, settings_said, body_said, lines_text, script_text}
-use Rattle.step_tables.specs.Sound.{within, is_sound_action, is_sound_task, distinct_names, rising_below, is_sound}
-use Rattle.step_tables.specs.Judging.{value, outside, event_of, with_event, with_line, with_setting, nothing, script_from, setting_at, judged, long_line, script_within, script_of, byte_limit}
+use Rattle.step_tables.specs.Sound.{is_sound_action, is_sound_task, rising_below, is_sound}
+use Rattle.step_tables.specs.Limits.{limits_of}
+use Rattle.step_tables.specs.Judging.{value, least, most, outside, event_of, with_event, with_line, with_setting, nothing, script_from, setting_at, judged, long_line, script_within, script_of, byte_limit}
 use Rattle.step_tables.proofs.RowsOf.{both, first_of_both, second_of_both}
 use Rattle.step_tables.proofs.Valid.{last_from, last_is}
 use Rattle.step_tables.proofs.WordsAgain.{are_words, number_is_word, is_number, value_again, first_piece}
+use Rattle.step_tables.proofs.Bounds.{InRange, in_range, inside_small, within_outside, start_inside, workers_small, rounds_small}
 use Rattle.step_tables.proofs.RunAgain.{bytes_of, Passes, Runs, runs_to, runs_then, no_kind, both_false, run_lines, lines_some, setting_step, header_step, cut_lines, setting_words}
-use Rattle.step_tables.proofs.TasksAgain.{base, lens, after_tasks, tasks_run, within_outside}
+use Rattle.step_tables.proofs.TasksAgain.{base, lens, after_tasks, tasks_run}
 use Rattle.step_tables.proofs.RowsAgain.{order_fine, order_known, order_are_words, action_again}
 use Rattle.step_tables.proofs.RowsRun.{Fine, between, rows_run}
 
@@ -45,7 +48,7 @@ test_at_most : (a b : ℕ) → nat_le a b ≡ true → a ≤ b
 test_at_most a b e = grind (arith, nat_tests)
 
 -- an event's line passes, and adds its event
-event_step : (s : Script) (es : List Event) (e : Event) → Fine s.tasks → s.rounds ≤ 100000 → is_sound_action (length s.tasks) e.action ≡ true → e.round < s.rounds → last_from 0 es ≤ e.round → length es < 65536
+event_step : (s : Script) (es : List Event) (e : Event) → Fine s.tasks → s.rounds < 10 ^ 10 → is_sound_action (length s.tasks) e.action ≡ true → e.round < s.rounds → last_from 0 es ≤ e.round → length es < (limits_of s.version).events
     → Passes (with_events s es) (event_said (names_of s.tasks) e) × (with_line (with_events s es) (event_said (names_of s.tasks) e) ≡ with_events s (es ++ e ∷ []))
 unfolding event_said event_of with_line with_event
 event_step s es e fine rounds sound below rises few =
@@ -59,7 +62,7 @@ event_step s es e fine rounds sound below rises few =
             no_kind _ kinds.Number _ (is_number e.round small)
             (no_kind _ kinds.UnknownTask _ (order_known s.tasks e.action fine.distinct sound)
             (no_kind _ kinds.LimitPassed None (both_false (nat_le s.rounds (value (decimal e.round))) _ (ap (nat_le s.rounds) (value_again e.round small) ∙ below_test e.round s.rounds below)
-            (both_false (nat_le 65536 (length es)) _ (below_test (length es) 65536 few)
+            (both_false (nat_le (limits_of s.version).events (length es)) _ (below_test (length es) (limits_of s.version).events few)
             ((λ i. nat_lt (value_again e.round small i) (last_is 0 es i)) ∙ not_less e.round (last_from 0 es) rises))) refl));
       },
       λ i. base s s.tasks (lens s.tasks) (length s.tasks) (es ++ record { round = value_again e.round small i; action = action_again s.tasks e.action fine.distinct sound i } ∷ []),
@@ -69,7 +72,7 @@ last_of_more : (from : ℕ) (es : List Event) (e : Event) → last_from from (es
 last_of_more from [] e = refl
 last_of_more from (f ∷ es) e = last_of_more f.round es e
 
-events_run : (s : Script) (es more : List Event) → Fine s.tasks → s.rounds ≤ 100000 → list_all (λ e. is_sound_action (length s.tasks) e.action) more ≡ true → rising_below (last_from 0 es) s.rounds more ≡ true → length (es ++ more) ≤ 65536
+events_run : (s : Script) (es more : List Event) → Fine s.tasks → s.rounds < 10 ^ 10 → list_all (λ e. is_sound_action (length s.tasks) e.action) more ≡ true → rising_below (last_from 0 es) s.rounds more ≡ true → length (es ++ more) ≤ (limits_of s.version).events
     → Runs (with_events s es) (map (event_said (names_of s.tasks)) more) (with_events s (es ++ more))
 events_run s es [] fine rounds sound rises few = ap (with_events s) (sym (append-nil es))
 events_run s es (e ∷ more) fine rounds sound rises few =
@@ -81,7 +84,7 @@ events_run s es (e ∷ more) fine rounds sound rises few =
       subst (λ p. Runs p (map (event_said (names_of s.tasks)) more) (with_events s (es ++ e ∷ more))) (sym step.1)
           (subst (λ all. Runs (with_events s (es ++ e ∷ [])) (map (event_said (names_of s.tasks)) more) (with_events s all)) next
           (events_run s (es ++ e ∷ []) more fine rounds (second_of_both (is_sound_action (length s.tasks) e.action) _ sound)
-          (ap (λ from. rising_below from s.rounds more) (last_of_more 0 es e) ∙ second_of_both (nat_lt e.round s.rounds) _ later) (subst (λ all. length all ≤ 65536) (sym next) few))),
+          (ap (λ from. rising_below from s.rounds more) (last_of_more 0 es e) ∙ second_of_both (nat_lt e.round s.rounds) _ later) (subst (λ all. length all ≤ (limits_of s.version).events) (sym next) few))),
     )
 
 -- the last line
@@ -94,52 +97,6 @@ names_fine : (workers n : ℕ) (ts : List TaskDef) → list_all (is_sound_task w
 names_fine workers n [] e = refl
 names_fine workers n (t ∷ ts) e = both _ _ (first_of_both (is_name t.name) _ (first_of_both (is_sound_task workers n t) _ e)) (names_fine workers n ts (second_of_both (is_sound_task workers n t) _ e))
 
--- what is known of a script in range
-record InRange (s : Script) : Type 0 where
-  version : within 1 2 s.version ≡ true
-  workers : within 1 16 s.workers ≡ true
-  depth : within 1 1000 s.depth ≡ true
-  start : nat_le s.start 4294967295 ≡ true
-  step : within 1 1048576 s.step ≡ true
-  rounds : within 1 100000 s.rounds ≡ true
-  few : nat_le (length s.tasks) 4096 ≡ true
-  tasks : list_all (is_sound_task s.workers (length s.tasks)) s.tasks ≡ true
-  distinct : distinct_names (names_of s.tasks) ≡ true
-  few_events : nat_le (length s.events) 65536 ≡ true
-  actions : list_all (λ e. is_sound_action (length s.tasks) e.action) s.events ≡ true
-  rising : rising_below 0 s.rounds s.events ≡ true
-
-in_range : (s : Script) → is_sound s ≡ true → InRange s
-unfolding is_sound
-in_range s e =
-    let e_1 = second_of_both (within 1 2 s.version) _ e in
-    let e_2 = second_of_both (within 1 16 s.workers) _ e_1 in
-    let e_3 = second_of_both (within 1 1000 s.depth) _ e_2 in
-    let e_4 = second_of_both (nat_le s.start 4294967295) _ e_3 in
-    let e_5 = second_of_both (within 1 1048576 s.step) _ e_4 in
-    let e_6 = second_of_both (within 1 100000 s.rounds) _ e_5 in
-    let e_7 = second_of_both (nat_le (length s.tasks) 4096) _ e_6 in
-    let e_8 = second_of_both (list_all (is_sound_task s.workers (length s.tasks)) s.tasks) _ e_7 in
-    let e_9 = second_of_both (distinct_names (names_of s.tasks)) _ e_8 in
-    let e_10 = second_of_both (nat_le (length s.events) 65536) _ e_9 in
-    record {
-      version = first_of_both (within 1 2 s.version) _ e;
-      workers = first_of_both (within 1 16 s.workers) _ e_1;
-      depth = first_of_both (within 1 1000 s.depth) _ e_2;
-      start = first_of_both (nat_le s.start 4294967295) _ e_3;
-      step = first_of_both (within 1 1048576 s.step) _ e_4;
-      rounds = first_of_both (within 1 100000 s.rounds) _ e_5;
-      few = first_of_both (nat_le (length s.tasks) 4096) _ e_6;
-      tasks = first_of_both (list_all (is_sound_task s.workers (length s.tasks)) s.tasks) _ e_7;
-      distinct = first_of_both (distinct_names (names_of s.tasks)) _ e_8;
-      few_events = first_of_both (nat_le (length s.events) 65536) _ e_9;
-      actions = first_of_both (list_all (λ e. is_sound_action (length s.tasks) e.action) s.events) _ e_10;
-      rising = second_of_both (list_all (λ e. is_sound_action (length s.tasks) e.action) s.events) _ e_10;
-    }
-
-within_most : (low high n : ℕ) → within low high n ≡ true → n ≤ high
-within_most low high n e = grind (arith, nat_tests)
-
 -- the lines behind the settings pass
 body_run : (s : Script) → InRange s → Runs (base s [] [] 0 []) (body_said s.tasks s.events) (record (with_events s s.events) { ended = true })
 unfolding body_said
@@ -147,11 +104,11 @@ body_run s r =
     let fine : Fine s.tasks = record { distinct = r.distinct; fine = names_fine s.workers (length s.tasks) s.tasks r.tasks } in
     let none : between s s.tasks [] ≡ with_events s [] = λ i. base s (append-nil s.tasks i) (lens (append-nil s.tasks i)) (length s.tasks) [] in
     runs_then (base s [] [] 0 []) (after_tasks s s.tasks) (record (with_events s s.events) { ended = true }) (map (λ t. task_said t (length t.rows)) s.tasks) _
-    (tasks_run s (length s.tasks) [] s.tasks (within_most 1 16 s.workers r.workers) r.tasks r.distinct (test_at_most (length s.tasks) 4096 r.few))
+    (tasks_run s (length s.tasks) [] s.tasks (workers_small _ _ _ _ _ _ r.settings) r.tasks r.distinct (test_at_most (length s.tasks) (limits_of s.version).tasks r.few))
     (runs_then (after_tasks s s.tasks) (with_events s []) (record (with_events s s.events) { ended = true }) (flat_map (λ t. rows_said (names_of s.tasks) t.name 0 t.rows) s.tasks) _
     (runs_to (after_tasks s s.tasks) (between s s.tasks []) (with_events s []) (flat_map (λ t. rows_said (names_of s.tasks) t.name 0 t.rows) s.tasks) (rows_run s s.tasks [] s.tasks refl fine r.tasks) none)
     (runs_then (with_events s []) (with_events s s.events) (record (with_events s s.events) { ended = true }) (map (event_said (names_of s.tasks)) s.events) (ends ∷ [])
-    (events_run s [] s.events fine (within_most 1 100000 s.rounds r.rounds) r.actions r.rising (test_at_most (length s.events) 65536 r.few_events))
+    (events_run s [] s.events fine (rounds_small _ _ _ _ _ _ r.settings) r.actions r.rising (test_at_most (length s.events) (limits_of s.version).events r.few_events))
     (end_run s)))
 
 -- lines that pass have words
@@ -159,11 +116,22 @@ runs_words : (p q : Progress) (xs : List Said) → Runs p xs q → list_all (λ 
 runs_words p q [] r = refl
 runs_words p q (x ∷ xs) r = both _ _ r.0.words (runs_words (with_line p x) q xs r.1)
 
-small_within : (high n : ℕ) → high < 10 ^ 10 → n ≤ high → n < 10 ^ 10
-small_within high n h k = omega arith
+-- the settings of a script in range are not outside theirs
+record Inside (s : Script) : Type 0 where
+  workers : outside (least Workers) (most (limits_of s.version) Workers) s.workers ≡ false
+  depth : outside (least Depth) (most (limits_of s.version) Depth) s.depth ≡ false
+  start : outside (least Start) (most (limits_of s.version) Start) s.start ≡ false
+  step : outside (least Step) (most (limits_of s.version) Step) s.step ≡ false
+  rounds : outside (least Rounds) (most (limits_of s.version) Rounds) s.rounds ≡ false
 
-start_inside : (n : ℕ) → nat_le n 4294967295 ≡ true → outside 0 4294967295 n ≡ false
-start_inside n e = grind (arith, nat_tests)
+inside : (s : Script) → InRange s → Inside s
+inside s r = let are = r.settings in record {
+  workers = within_outside 1 (limits_of s.version).workers s.workers are.workers;
+  depth = within_outside 1 (limits_of s.version).depth s.depth are.depth;
+  start = start_inside s.start (limits_of s.version).start are.start;
+  step = within_outside 1 (limits_of s.version).step s.step are.step;
+  rounds = within_outside 1 (limits_of s.version).rounds s.rounds are.rounds;
+}
 
 some_lines : (line : List ℕ) (lines : List (List ℕ)) → is_empty (line ∷ lines) ≡ false
 some_lines line lines = refl
@@ -189,20 +157,25 @@ settings_again s rest r some =
     let p3 : Progress = record p2 { depth = s.depth } in
     let p4 : Progress = record p3 { start = s.start } in
     let p5 : Progress = record p4 { step = s.step } in
-    header_step s.version r.version (l2 ∷ l3 ∷ l4 ∷ l5 ∷ l6 ∷ rest) refl
-    ∙ setting_step 2 Workers s.workers p1 (l3 ∷ l4 ∷ l5 ∷ l6 ∷ rest) (lit< tt) refl refl (within_outside 1 16 s.workers r.workers) (small_within 16 s.workers (lit< tt) (within_most 1 16 s.workers r.workers)) refl
-    ∙ setting_step 3 Depth s.depth p2 (l4 ∷ l5 ∷ l6 ∷ rest) (lit< tt) refl refl (within_outside 1 1000 s.depth r.depth) (small_within 1000 s.depth (lit< tt) (within_most 1 1000 s.depth r.depth)) refl
-    ∙ setting_step 4 Start s.start p3 (l5 ∷ l6 ∷ rest) (lit< tt) refl refl (start_inside s.start r.start) (small_within 4294967295 s.start (lit< tt) (test_at_most s.start 4294967295 r.start)) refl
-    ∙ setting_step 5 Step s.step p4 (l6 ∷ rest) (lit< tt) refl refl (within_outside 1 1048576 s.step r.step) (small_within 1048576 s.step (lit< tt) (within_most 1 1048576 s.step r.step)) refl
-    ∙ setting_step 6 Rounds s.rounds p5 rest (lit< tt) refl refl (within_outside 1 100000 s.rounds r.rounds) (small_within 100000 s.rounds (lit< tt) (within_most 1 100000 s.rounds r.rounds)) some
+    let of = inside s r in
+    header_step s.version r.settings.version (l2 ∷ l3 ∷ l4 ∷ l5 ∷ l6 ∷ rest) refl
+    ∙ setting_step 2 Workers s.workers p1 (l3 ∷ l4 ∷ l5 ∷ l6 ∷ rest) (lit< tt) refl refl of.workers refl
+    ∙ setting_step 3 Depth s.depth p2 (l4 ∷ l5 ∷ l6 ∷ rest) (lit< tt) refl refl of.depth refl
+    ∙ setting_step 4 Start s.start p3 (l5 ∷ l6 ∷ rest) (lit< tt) refl refl of.start refl
+    ∙ setting_step 5 Step s.step p4 (l6 ∷ rest) (lit< tt) refl refl of.step refl
+    ∙ setting_step 6 Rounds s.rounds p5 rest (lit< tt) refl refl of.rounds some
 
 settings_are_words : (s : Script) → InRange s → list_all (λ x. are_words (said_words x)) (settings_said s) ≡ true
 settings_are_words s r =
-    both (are_words (said_words (sets Workers (decimal s.workers)))) _ (setting_words Workers s.workers (small_within 16 s.workers (lit< tt) (within_most 1 16 s.workers r.workers)))
-    (both (are_words (said_words (sets Depth (decimal s.depth)))) _ (setting_words Depth s.depth (small_within 1000 s.depth (lit< tt) (within_most 1 1000 s.depth r.depth)))
-    (both (are_words (said_words (sets Start (decimal s.start)))) _ (setting_words Start s.start (small_within 4294967295 s.start (lit< tt) (test_at_most s.start 4294967295 r.start)))
-    (both (are_words (said_words (sets Step (decimal s.step)))) _ (setting_words Step s.step (small_within 1048576 s.step (lit< tt) (within_most 1 1048576 s.step r.step)))
-    (both (are_words (said_words (sets Rounds (decimal s.rounds)))) true (setting_words Rounds s.rounds (small_within 100000 s.rounds (lit< tt) (within_most 1 100000 s.rounds r.rounds))) refl))))
+    let of = inside s r in
+    both (are_words (said_words (sets Workers (decimal s.workers)))) _ (word Workers s.workers of.workers)
+    (both (are_words (said_words (sets Depth (decimal s.depth)))) _ (word Depth s.depth of.depth)
+    (both (are_words (said_words (sets Start (decimal s.start)))) _ (word Start s.start of.start)
+    (both (are_words (said_words (sets Step (decimal s.step)))) _ (word Step s.step of.step)
+    (both (are_words (said_words (sets Rounds (decimal s.rounds)))) true (word Rounds s.rounds of.rounds) refl))))
+  where
+    word : (setting : Setting) (n : ℕ) → outside (least setting) (most (limits_of s.version) setting) n ≡ false → are_words (said_words (sets setting (decimal n))) ≡ true
+    word setting n e = setting_words setting n (inside_small s.version setting n e)
 
 -- the lines of a script's text
 text_lines : (s : Script) → InRange s → pieces 10 (script_text s) ≡ header_of s.version ∷ (map bytes_of (settings_said s ++ body_said s.tasks s.events) ++ [] ∷ [])

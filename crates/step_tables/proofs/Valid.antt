@@ -13,8 +13,10 @@ use Rattle.step_tables.specs.declared.progress.Progress.{Progress}
 use Rattle.step_tables.specs.Words.{Word, is_empty, is_name}
 use Rattle.step_tables.specs.Shapes.{TaskLine, RowLine, EventLine, Said, sets, task, row, event, ends}
 use Rattle.step_tables.specs.Text.{names_of}
-use Rattle.step_tables.specs.Sound.{within, is_sound_action, distinct_names, rising_below, is_sound}
+use Rattle.step_tables.specs.Sound.{is_sound_action, distinct_names, rising_below, is_sound}
+use Rattle.step_tables.specs.Limits.{limits_of}
 use Rattle.step_tables.specs.Judging.{may_come, all_rows, due, promised, rows_made, value, most, unknown, named, with_task, with_row, with_event, with_line, with_row_at_end, task_of, row_of, event_of, script_from}
+use Rattle.step_tables.proofs.Bounds.{AreSettings}
 use Rattle.step_tables.proofs.Back.{IsBody, AreOrders, IsOrder}
 use Rattle.step_tables.proofs.Good.{neither, GoodRow, good_row, GoodEvent, good_event, GoodTask, good_task}
 use Rattle.step_tables.proofs.Steps.{Adds}
@@ -22,16 +24,11 @@ use Rattle.step_tables.proofs.RowsOf.{both, first_of_both, second_of_both, Fresh
 use Rattle.step_tables.proofs.SoundParts.{sound_row, sound_task, sound_event}
 
 pub record Valid (p : Progress) : Type 0 where
-  pub version : within 1 2 p.version ≡ true
-  pub workers : within 1 16 p.workers ≡ true
-  pub depth : within 1 1000 p.depth ≡ true
-  pub start : nat_le p.start 4294967295 ≡ true
-  pub step : within 1 1048576 p.step ≡ true
-  pub rounds : within 1 100000 p.rounds ≡ true
-  pub few : nat_le (length p.tasks) 4096 ≡ true
+  pub settings : AreSettings p.version p.workers p.depth p.start p.step p.rounds
+  pub few : nat_le (length p.tasks) (limits_of p.version).tasks ≡ true
   pub tables : Filled p.workers (length p.tasks) p.at p.tasks p.counts
   pub names : distinct_names (names_of p.tasks) ≡ true
-  pub few_events : nat_le (length p.events) 65536 ≡ true
+  pub few_events : nat_le (length p.events) (limits_of p.version).events ≡ true
   pub actions : list_all (λ e. is_sound_action (length p.tasks) e.action) p.events ≡ true
   pub rising : rising_below 0 p.rounds p.events ≡ true
   pub whole : is_empty p.events ≡ false → p.at ≡ length p.tasks
@@ -154,13 +151,8 @@ valid_task p line name unended comes good v =
     (subst (λ k. Filled p.workers (length p.tasks) k p.tasks p.counts) at_start v.tables) (ap (λ k. rows_made (slice_get p.tasks k)) (sym at_start) ∙ none_made) in
     let long : length (p.tasks ++ task_of line ∷ []) ≡ length p.tasks + 1 = length-append p.tasks (task_of line ∷ []) in
     record {
-      version = v.version;
-      workers = v.workers;
-      depth = v.depth;
-      start = v.start;
-      step = v.step;
-      rounds = v.rounds;
-      few = ap (λ n. nat_le n 4096) long ∙ at_most_more (length p.tasks) 4096 good.few;
+      settings = v.settings;
+      few = ap (λ n. nat_le n (limits_of p.version).tasks) long ∙ at_most_more (length p.tasks) (limits_of p.version).tasks good.few;
       tables = subst (λ k. Filled p.workers (length (p.tasks ++ task_of line ∷ [])) k (p.tasks ++ task_of line ∷ []) (p.counts ++ value line.rows ∷ [])) (sym at_start)
           (filled_from_fresh p.workers _ _ _ (fresh_more p.workers p.tasks p.counts (task_of line) (value line.rows) fresh (sound_task p line good name) (task_rows line)));
       names = ap distinct_names (map-append (λ t. t.name) p.tasks (task_of line ∷ [])) ∙ distinct_more (names_of p.tasks) (task_of line).name v.names (none_named p.tasks (task_of line).name (ap (unknown p.tasks) (task_name line) ∙ good.new));
@@ -177,13 +169,8 @@ valid_row p line are unended comes good v = subst (λ d. Valid (with_row p d (ro
     let new = with_row_at_end good.task (row_of p.tasks line) in
     let long : length (set p.tasks p.at new) ≡ length p.tasks = length-set p.tasks p.at new in
     record {
-      version = v.version;
-      workers = v.workers;
-      depth = v.depth;
-      start = v.start;
-      step = v.step;
-      rounds = v.rounds;
-      few = ap (λ n. nat_le n 4096) long ∙ v.few;
+      settings = v.settings;
+      few = ap (λ n. nat_le n (limits_of p.version).tasks) long ∙ v.few;
       tables = subst (λ n. Filled p.workers n (if length good.task.rows + 1 == promised p then p.at + 1 else p.at) (set p.tasks p.at new) p.counts) (sym long)
           (filled_more p.workers (length p.tasks) p.at p.tasks p.counts good.task (row_of p.tasks line) _ v.tables good.target.is_due (sound_row p line good are) refl);
       names = ap distinct_names (map_set (λ t. t.name) p.tasks p.at good.task new good.target.is_due (row_name good.task (row_of p.tasks line))) ∙ v.names;
@@ -203,16 +190,11 @@ valid_event p line is unended comes good v =
     let long : length (p.events ++ event_of p.tasks line ∷ []) ≡ length p.events + 1 = length-append p.events (event_of p.tasks line ∷ []) in
     let rising : last_from 0 p.events ≤ value line.round = subst (λ n. n ≤ value line.round) (last_is 0 p.events) good.rising in
     record {
-      version = v.version;
-      workers = v.workers;
-      depth = v.depth;
-      start = v.start;
-      step = v.step;
-      rounds = v.rounds;
+      settings = v.settings;
       few = v.few;
       tables = v.tables;
       names = v.names;
-      few_events = ap (λ n. nat_le n 65536) long ∙ at_most_more (length p.events) 65536 good.few;
+      few_events = ap (λ n. nat_le n (limits_of p.version).events) long ∙ at_most_more (length p.events) (limits_of p.version).events good.few;
       actions = list_all-append (λ e. is_sound_action (length p.tasks) e.action) p.events (event_of p.tasks line ∷ []) ∙ both _ _ v.actions (both _ true (sound_event p line good is) refl);
       rising = rising_more 0 p.rounds p.events (event_of p.tasks line) v.rising (subst (λ n. last_from 0 p.events ≤ n) (sym (event_round p.tasks line)) rising) (subst (λ n. n < p.rounds) (sym (event_round p.tasks line)) good.round);
       whole = λ some. test_is p.at (length p.tasks) comes;
@@ -227,12 +209,7 @@ valid_step p q (task line) body unended a v = subst Valid a.added (valid_task p 
 valid_step p q (row line) body unended a v = subst Valid a.added (valid_row p line body.1 unended a.comes (good_row p line a.good) v)
 valid_step p q (event line) body unended a v = subst Valid a.added (valid_event p line body unended a.comes (good_event p line a.good) v)
 valid_step p q ends body unended a v = subst Valid a.added (record {
-  version = v.version;
-  workers = v.workers;
-  depth = v.depth;
-  start = v.start;
-  step = v.step;
-  rounds = v.rounds;
+  settings = v.settings;
   few = v.few;
   tables = v.tables;
   names = v.names;
@@ -247,6 +224,7 @@ valid_step p q ends body unended a v = subst Valid a.added (record {
 pub valid_end : (p : Progress) → Valid p → p.ended ≡ true → is_sound (script_from p) ≡ true
 unfolding is_sound script_from
 valid_end p v ended =
-    both _ _ v.version (both _ _ v.workers (both _ _ v.depth (both _ _ v.start (both _ _ v.step (both _ _ v.rounds (both _ _ v.few
+    let of = v.settings in
+    both _ _ of.version (both _ _ of.workers (both _ _ of.depth (both _ _ of.start (both _ _ of.step (both _ _ of.rounds (both _ _ v.few
     (both _ _ (all_filled p.workers (length p.tasks) p.at p.tasks p.counts v.tables (v.done ended))
     (both _ _ v.names (both _ _ v.few_events (both _ _ v.actions v.rising))))))))))

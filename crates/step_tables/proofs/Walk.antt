@@ -9,6 +9,7 @@ use Rattle.step_tables.specs.declared.shapes.Setting.TheVariants.{Workers, Depth
 use Rattle.step_tables.specs.Words.{Word, is_empty, words_of}
 use Rattle.step_tables.specs.Shapes.{Said, sets}
 use Rattle.step_tables.specs.Text.{said_words}
+use Rattle.step_tables.specs.Limits.{limits_of}
 use Rattle.step_tables.specs.Judging.{first_fault, tests, value, no_number, outside, least, most, with_setting, with_line, setting_at, said_in, said_of, script_from, closed, go_on, taken, judged}
 use Rattle.step_tables.proofs.Options.{bind_some}
 use Rattle.step_tables.proofs.Back.{IsBody, body_back, setting_back}
@@ -84,7 +85,7 @@ pub record SetLine (setting : Setting) (line : List ℕ) (p q : Progress) : Type
   pub word : Word
   pub words : words_of line ≡ Some (said_words (sets setting word))
   pub number : no_number word ≡ false
-  pub range : outside (least setting) (most setting) (value word) ≡ false
+  pub range : outside (least setting) (most (limits_of p.version) setting) (value word) ≡ false
   pub added : with_setting p setting (value word) ≡ q
 
 pub set_line : (setting : Setting) (long : Option ℕ) (n : ℕ) (line : List ℕ) (p q : Progress) → setting_at n ≡ Some setting → (n ≡ 1 → ⊥) → IsTaken long n line p q → SetLine setting line p q

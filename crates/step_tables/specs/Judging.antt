@@ -12,12 +12,14 @@ use Rattle.step_tables.specs.declared.tables.TaskDef.{TaskDef}
 use Rattle.step_tables.specs.declared.tables.Event.{Event}
 use Rattle.step_tables.specs.declared.tables.Script.{Script}
 use Rattle.step_tables.specs.declared.faults.ScriptFault.{ScriptFault}
+use Rattle.step_tables.specs.declared.limits.Limits.{Limits}
 use Rattle.step_tables.specs.declared.progress.Progress.{Progress}
 use Rattle.step_tables.specs.declared.shapes.Setting.{Setting}
 use Rattle.step_tables.specs.declared.shapes.Setting.TheVariants.{Workers, Depth, Start, Step, Rounds}
 use Rattle.step_tables.specs.declared.faults.FaultKind.{FaultKind}
 use Rattle.step_tables.specs.declared.faults.FaultKind.TheVariants as kinds
 use Rattle.step_tables.specs.Faults.{number_of_kind}
+use Rattle.step_tables.specs.Limits.{newest, limits_of, most_rows, most_actions, most_delay}
 use Rattle.step_tables.specs.Words.{Word, ◌>>=◌, ◌is◌, pieces, is_empty, words_of, number_of, signed_of, reasons_of}
 use Rattle.step_tables.specs.Shapes as shapes
 use Rattle.step_tables.specs.Shapes.{Order, Delay, Place, TaskLine, RowLine, EventLine, Said, setting_line, body_line}
@@ -101,12 +103,12 @@ least Step = 1
 least Rounds = 1
 
 -- the most that a setting may be
-abbrev pub most : Setting → ℕ
-most Workers = 16
-most Depth = 1000
-most Start = 4294967295
-most Step = 1048576
-most Rounds = 100000
+abbrev pub most : Limits → Setting → ℕ
+most limits Workers = limits.workers
+most limits Depth = limits.depth
+most limits Start = limits.start
+most limits Step = limits.step
+most limits Rounds = limits.rounds
 
 -- whether a word in a number's place of the place writes none
 unfoldable pub place_no_number : Place → Bool
@@ -129,7 +131,7 @@ delay_no_number shapes.never = false
 -- whether the number of an expiry is out of its range
 unfoldable pub delay_outside : Delay → Bool
 delay_outside shapes.keeps = false
-delay_outside (shapes.after w) = outside 1 1073741824 (value w)
+delay_outside (shapes.after w) = outside 1 most_delay (value w)
 delay_outside shapes.never = false
 
 -- whether the row is not the one that must come next, or its next row is none of its task's
@@ -164,15 +166,15 @@ first_fault [] = None
 first_fault (test ∷ tests) = if test.1 then Some test.0 else first_fault tests
 
 -- the kinds of fault that a setting's line may have, each beside its test and the lowest first: a word that is no number; a number out of its range
-abbrev pub setting_tests : Setting → Word → List (FaultKind × Bool)
-setting_tests setting w = (kinds.Number, no_number w) ∷ (kinds.LimitPassed, outside (least setting) (most setting) (value w)) ∷ []
+abbrev pub setting_tests : Limits → Setting → Word → List (FaultKind × Bool)
+setting_tests limits setting w = (kinds.Number, no_number w) ∷ (kinds.LimitPassed, outside (least setting) (most limits setting) (value w)) ∷ []
 
 -- those of a task line: a word that is no number; a name that another task has; a number out of its range or one task too many
 abbrev pub task_tests : Progress → TaskLine → List (FaultKind × Bool)
 task_tests p line =
     (kinds.Number, place_no_number line.place || no_number line.rows)
     ∷ (kinds.TwiceNamed, not (unknown p.tasks line.name))
-    ∷ (kinds.LimitPassed, place_outside p.workers line.place || (outside 1 64 (value line.rows) || nat_le 4096 (length p.tasks)))
+    ∷ (kinds.LimitPassed, place_outside p.workers line.place || (outside 1 most_rows (value line.rows) || nat_le (limits_of p.version).tasks (length p.tasks)))
     ∷ []
 
 -- those of a row line: a word that is no number; an unknown name; not the next row or no row to go to; an expiry that is barred; too many actions or ticks out of their range
@@ -182,7 +184,7 @@ row_tests p line =
     ∷ (kinds.UnknownTask, unknown p.tasks line.name || list_any (λ order. unknown p.tasks (order_name order)) line.orders)
     ∷ (kinds.RowTarget, wrong_target p (due p) line)
     ∷ (kinds.ExpiryBarred, barred (due p) line.delay)
-    ∷ (kinds.LimitPassed, nat_lt 16 (length line.orders) || delay_outside line.delay)
+    ∷ (kinds.LimitPassed, nat_lt most_actions (length line.orders) || delay_outside line.delay)
     ∷ []
 
 -- those of an event line: a word that is no number; an unknown name; a round out of its range, one event too many, or a round that falls
@@ -190,12 +192,12 @@ abbrev pub event_tests : Progress → EventLine → List (FaultKind × Bool)
 event_tests p line =
     (kinds.Number, no_number line.round)
     ∷ (kinds.UnknownTask, unknown p.tasks (order_name line.order))
-    ∷ (kinds.LimitPassed, nat_le p.rounds (value line.round) || (nat_le 65536 (length p.events) || nat_lt (value line.round) (last_round p.events)))
+    ∷ (kinds.LimitPassed, nat_le p.rounds (value line.round) || (nat_le (limits_of p.version).events (length p.events) || nat_lt (value line.round) (last_round p.events)))
     ∷ []
 
 -- those of a line by what it says; the line `end` has none
 abbrev pub tests : Progress → Said → List (FaultKind × Bool)
-tests p (shapes.sets setting w) = setting_tests setting w
+tests p (shapes.sets setting w) = setting_tests (limits_of p.version) setting w
 tests p (shapes.task line) = task_tests p line
 tests p (shapes.row line) = row_tests p line
 tests p (shapes.event line) = event_tests p line
@@ -314,7 +316,7 @@ judge n p line = if n == 1
 
 -- the most bytes that a script may have
 abbrev pub byte_limit : ℕ
-byte_limit = 4194304
+byte_limit = (limits_of newest).bytes
 
 -- the line in which the byte behind the limit stands
 unfoldable pub long_line : ℕ → List ℕ → Option ℕ

@@ -10,6 +10,7 @@ use Rattle.step_tables.specs.declared.tables.Row.{Row}
 use Rattle.step_tables.specs.declared.tables.TaskDef.{TaskDef}
 use Rattle.step_tables.specs.declared.tables.Event.{Event}
 use Rattle.step_tables.specs.declared.tables.Script.{Script}
+use Rattle.step_tables.specs.Limits.{newest, limits_of, most_rows, most_actions, most_delay}
 use Rattle.step_tables.specs.Sound.{is_nice}
 
 -- the action names one of so many tasks, and a wake has some of the seven reasons
@@ -20,7 +21,7 @@ ActionRange tasks (Kill i) = i.0 < tasks
 -- such a task may have the expiry, and its ticks are in range
 abbrev pub ExpiryRange : Kind → Expiry → Type 0
 ExpiryRange kind Keep = Unit {0}
-ExpiryRange (Pinned home nice) (After ticks) = (1 ≤ ticks) × (ticks ≤ 1073741824)
+ExpiryRange (Pinned home nice) (After ticks) = (1 ≤ ticks) × (ticks ≤ most_delay)
 ExpiryRange (Pinned home nice) Never = Unit {0}
 ExpiryRange (Shared nice) (After ticks) = ⊥
 ExpiryRange (Shared nice) Never = ⊥
@@ -35,7 +36,7 @@ KindRange workers (Tasklet home class) = home < workers
 
 -- a row of a task of this kind with so many rows, among so many tasks
 pub record RowRange (tasks : ℕ) (kind : Kind) (rows : ℕ) (row : Row) : Type 0 where
-  pub few : length row.actions ≤ 16
+  pub few : length row.actions ≤ most_actions
   pub actions : (k : ℕ) (action : Action) → slice_get row.actions k ≡ Some action → ActionRange tasks action
   pub expiry : ExpiryRange kind row.expiry
   pub next : row.next < rows
@@ -44,7 +45,7 @@ pub record RowRange (tasks : ℕ) (kind : Kind) (rows : ℕ) (row : Row) : Type 
 pub record TaskRange (workers tasks : ℕ) (task : TaskDef) : Type 0 where
   pub kind : KindRange workers task.kind
   pub some : 1 ≤ length task.rows
-  pub few : length task.rows ≤ 64
+  pub few : length task.rows ≤ most_rows
   pub rows : (j : ℕ) (row : Row) → slice_get task.rows j ≡ Some row → RowRange tasks task.kind (length task.rows) row
 
 -- an event of a script with so many rounds, among so many tasks
@@ -55,17 +56,17 @@ pub record EventRange (tasks rounds : ℕ) (event : Event) : Type 0 where
 -- the tables of a script
 pub record ScriptRange (s : Script) : Type 0 where
   pub some_version : 1 ≤ s.version
-  pub few_version : s.version ≤ 2
+  pub few_version : s.version ≤ newest
   pub some_workers : 1 ≤ s.workers
-  pub few_workers : s.workers ≤ 16
+  pub few_workers : s.workers ≤ (limits_of s.version).workers
   pub some_depth : 1 ≤ s.depth
-  pub few_depth : s.depth ≤ 1000
-  pub start : s.start ≤ 4294967295
+  pub few_depth : s.depth ≤ (limits_of s.version).depth
+  pub start : s.start ≤ (limits_of s.version).start
   pub some_step : 1 ≤ s.step
-  pub few_step : s.step ≤ 1048576
+  pub few_step : s.step ≤ (limits_of s.version).step
   pub some_rounds : 1 ≤ s.rounds
-  pub few_rounds : s.rounds ≤ 100000
-  pub few_tasks : length s.tasks ≤ 4096
+  pub few_rounds : s.rounds ≤ (limits_of s.version).rounds
+  pub few_tasks : length s.tasks ≤ (limits_of s.version).tasks
   pub tasks : (i : ℕ) (task : TaskDef) → slice_get s.tasks i ≡ Some task → TaskRange s.workers (length s.tasks) task
-  pub few_events : length s.events ≤ 65536
+  pub few_events : length s.events ≤ (limits_of s.version).events
   pub events : (k : ℕ) (event : Event) → slice_get s.events k ≡ Some event → EventRange (length s.tasks) s.rounds event

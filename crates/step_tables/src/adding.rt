@@ -2,9 +2,11 @@
 
 ghost use Rattle.std.specs.Prelude.{◌≡◌, ℕ, ◌<◌, ◌≤◌, ◌^◌, map, length, Option, option_map, None, OnOk, IfOk, IfSome, slice_get, false, ◌+◌, ◌==◌};
 ghost use Rattle.step_tables.specs.Judging.{setting_tests, task_tests, row_tests, event_tests, tests, first_fault, may_come, due, promised, nothing, outside, least, most, value, with_setting, with_task, with_row, with_event, with_line, task_of, row_of, event_of, place_outside, delay_outside};
+ghost use Rattle.step_tables.specs.Limits.{limits_of};
 ghost use Rattle.step_tables.specs.Views.{place_view, delay_view, task_view, row_view, event_view, said_view};
 
 use crate::judging::{least, most};
+use crate::limits::MOST_ROWS;
 use crate::lists::{Counts, Events, Name, Rows};
 use crate::named_tasks::NamedTasks;
 use crate::names::{action_of, actions_of};
@@ -103,7 +105,7 @@ impl Progress {
     {
         let task = task_of(alloc, self.workers, line)?;
         self.tasks.push(alloc, task)?;
-        self.counts.push(number_within(1, 64, line.rows))
+        self.counts.push(number_within(1, MOST_ROWS, line.rows))
     }
 
     /// Whether one row more is the last of the task whose rows come now.
@@ -120,11 +122,11 @@ impl Progress {
     /// Adds a good row line.
     #[tactic(auto, unfolding(crate::specs::Judging::with_row))]
     fn add_row(&mut self, alloc: Global, line: &RowLine<'_>) -> Result<(), AllocError>
-        requires few { length self.old.tasks ≤ 4096 }
-        requires good { first_fault (row_tests self.old (row_view line.now)) ≡ None }
+        requires { first_fault (row_tests self.old (row_view line.now)) ≡ None }
         ensures { OnOk result (self.new ≡ with_row self.old (due self.old) (row_of self.old.tasks (row_view line.now))) }
     {
         let is_last = self.is_last_row();
+        let _count = self.tasks.len();
         let row = row_of(alloc, &self.tasks, self.promised(), line)?;
         self.tasks.add_row(self.at, row)?;
         if is_last {
@@ -146,15 +148,14 @@ impl Progress {
     /// Adds a line that may come and has no fault; a failure leaves some of it.
     #[tactic(auto, unfolding(crate::specs::Judging::with_line))]
     pub fn add(&mut self, alloc: Global, said: &Said<'_>) -> Result<(), AllocError>
-        requires few { length self.old.tasks ≤ 4096 }
-        requires good { first_fault (tests self.old (said_view said.now)) ≡ None }
+        requires { first_fault (tests self.old (said_view said.now)) ≡ None }
         ensures { OnOk result (self.new ≡ with_line self.old (said_view said.now)) }
     {
         match said {
             Said::Sets(setting, word) => {
                 self.add_setting(
                     *setting,
-                    number_within(least(*setting), most(*setting), word),
+                    number_within(least(*setting), most(self.limits(), *setting), word),
                 );
                 Ok(())
             }

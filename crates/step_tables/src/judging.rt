@@ -2,9 +2,11 @@
 
 ghost use Rattle.std.specs.Prelude.{◌≡◌, ℕ, ◌<◌, ◌≤◌, map, length, Option, option_map, None};
 ghost use Rattle.step_tables.specs.Judging.{setting_tests, task_tests, row_tests, event_tests, tests, first_fault, may_come, due, promised, rows_made, wrong_target, barred, is_timerless, is_expiry, last_round, all_rows, no_row, least, most};
+ghost use Rattle.step_tables.specs.Limits.{limits_of};
 ghost use Rattle.step_tables.specs.Views.{delay_view, task_view, row_view, event_view, said_view};
 
 use crate::faults::FaultKind;
+use crate::limits::{Limits, MOST_ACTIONS, MOST_ROWS};
 use crate::names::{any_unknown, is_named, is_unknown, unknown};
 use crate::progress::Progress;
 use crate::shapes::{Delay, EventLine, RowLine, Said, Setting, TaskLine};
@@ -14,7 +16,7 @@ use crate::values::{
 };
 
 /// The least that a setting may be.
-pub(crate) fn least(setting: Setting) -> u64
+pub(crate) fn least(setting: Setting) -> u32
     ensures { result ≡ least setting }
 {
     match setting {
@@ -24,25 +26,25 @@ pub(crate) fn least(setting: Setting) -> u64
 }
 
 /// The most that a setting may be.
-pub(crate) fn most(setting: Setting) -> u64
-    ensures { result ≡ most setting }
+pub(crate) fn most(limits: Limits, setting: Setting) -> u32
+    ensures { result ≡ most limits setting }
 {
     match setting {
-        Setting::Workers => 16,
-        Setting::Depth => 1000,
-        Setting::Start => 4_294_967_295,
-        Setting::Step => 1_048_576,
-        Setting::Rounds => 100_000,
+        Setting::Workers => limits.workers,
+        Setting::Depth => limits.depth,
+        Setting::Start => limits.start,
+        Setting::Step => limits.step,
+        Setting::Rounds => limits.rounds,
     }
 }
 
 /// The fault of a setting.
-fn setting_fault(setting: Setting, word: &[u8]) -> Option<FaultKind>
-    ensures { result ≡ first_fault (setting_tests setting word.now) }
+fn setting_fault(limits: Limits, setting: Setting, word: &[u8]) -> Option<FaultKind>
+    ensures { result ≡ first_fault (setting_tests limits setting word.now) }
 {
     if no_number(word) {
         Some(FaultKind::Number)
-    } else if outside(least(setting), most(setting), value(word)) {
+    } else if outside(least(setting), most(limits, setting), value(word)) {
         Some(FaultKind::LimitPassed)
     } else {
         None
@@ -80,6 +82,13 @@ fn last_round(events: &[Event]) -> u32
 }
 
 impl Progress {
+    /// The limits of the script's version.
+    pub fn limits(&self) -> Limits
+        ensures { result ≡ limits_of self.now.version }
+    {
+        Limits::of(self.version)
+    }
+
     /// The task whose rows come now.
     pub fn due(&self) -> Option<&TaskDef>
         ensures { option_map (λ task. task.now) result ≡ due self.now }
@@ -101,7 +110,7 @@ impl Progress {
     fn all_rows(&self) -> bool
         ensures { result ≡ all_rows self.now }
     {
-        self.at == self.tasks.as_slice().len()
+        self.at == self.tasks.len()
     }
 
     /// Whether no row has come.
@@ -142,8 +151,8 @@ impl Progress {
         } else if !unknown(&self.tasks, line.name) {
             Some(FaultKind::TwiceNamed)
         } else if place_outside(self.workers, line.place)
-            || outside(1, 64, value(line.rows))
-            || self.tasks.as_slice().len() >= 4096
+            || outside(1, MOST_ROWS, value(line.rows))
+            || self.tasks.len() >= self.limits().tasks as usize
         {
             Some(FaultKind::LimitPassed)
         } else {
@@ -188,7 +197,7 @@ impl Progress {
             Some(FaultKind::RowTarget)
         } else if self.is_barred(line.delay) {
             Some(FaultKind::ExpiryBarred)
-        } else if line.orders.len() > 16 || delay_outside(line.delay) {
+        } else if line.orders.len() > MOST_ACTIONS || delay_outside(line.delay) {
             Some(FaultKind::LimitPassed)
         } else {
             None
@@ -206,7 +215,7 @@ impl Progress {
         } else if is_unknown(&self.tasks, &line.order) {
             Some(FaultKind::UnknownTask)
         } else if self.rounds as u64 <= round
-            || events.len() >= 65_536
+            || events.len() >= self.limits().events as usize
             || round < last_round(events) as u64
         {
             Some(FaultKind::LimitPassed)
@@ -220,7 +229,7 @@ impl Progress {
         ensures { result ≡ first_fault (tests self.now (said_view said.now)) }
     {
         match said {
-            Said::Sets(setting, word) => setting_fault(*setting, word),
+            Said::Sets(setting, word) => setting_fault(self.limits(), *setting, word),
             Said::Task(line) => self.task_fault(line),
             Said::Row(line) => self.row_fault(line),
             Said::Event(line) => self.event_fault(line),

@@ -5,6 +5,7 @@ mod adding;
 mod faults;
 mod judging;
 pub mod laws;
+mod limits;
 mod lists;
 mod named_tasks;
 mod names;

@@ -1,6 +1,6 @@
 //! The tasks that were read so far, to be found by their names.
 
-ghost use Rattle.std.specs.Prelude.{◌≡◌, List, [], ◌∷◌, ◌++◌, length, ◌<◌, ◌≤◌, None, Some, OnOk, slice_get, slice_set};
+ghost use Rattle.std.specs.Prelude.{◌≡◌, List, [], ◌∷◌, ◌++◌, length, ◌<◌, ◌^◌, None, Some, OnOk, slice_get, slice_set};
 ghost use Rattle.step_tables.specs.declared.tables.TaskDef.{TaskDef};
 ghost use Rattle.step_tables.specs.Judging.{named, with_row_at_end};
 
@@ -49,6 +49,13 @@ impl NamedTasks {
         self.list.as_slice()
     }
 
+    /// How many tasks there are.
+    pub fn len(&self) -> usize
+        ensures { result ≡ length self.now }
+    {
+        self.list.len()
+    }
+
     /// The tasks, no longer to be found by name.
     pub fn into_tasks(self) -> Tasks
         ensures { result ≡ self }
@@ -67,7 +74,7 @@ impl NamedTasks {
     /// One task more, of a name that no other has.
     #[tactic(auto, unfolding(crate::specs::Judging::named))]
     pub fn push(&mut self, alloc: Global, task: TaskDef) -> Result<(), AllocError>
-        requires few { length self.old ≤ 4096 }
+        requires few { length self.old < 2 ^ 32 }
         requires new { named self.old task.name ≡ None }
         ensures { OnOk result (self.new ≡ self.old ++ task ∷ []) }
     {

@@ -9,15 +9,13 @@ ghost use Rattle.step_tables.specs.Sound.{is_sound};
 ghost use Rattle.step_tables.specs.Views.{said_view, Judges, Takes, Gives, words_in};
 
 use crate::faults::{FaultKind, ScriptError, ScriptFault};
+use crate::limits::{Limits, NEWEST};
 use crate::progress::{Progress, Refusal};
 use crate::shapes::{Said, Setting, body_line, setting_line};
 use crate::tables::Script;
 use crate::words::words_of;
 use std::alloc::{AllocError, Global};
 use text_lines::{Words, next_line};
-
-/// The most bytes that a script may have.
-const BYTE_LIMIT: usize = 4_194_304;
 
 /// The setting whose line this is.
 #[tactic(auto, unfolding(crate::specs::Judging::setting_at))]
@@ -63,7 +61,6 @@ impl Progress {
     /// Judges what a line says, and adds it where it has no fault.
     #[tactic(auto, unfolding(crate::specs::Judging::judge_said, crate::specs::Judging::judge_tested))]
     fn take_said(&mut self, alloc: Global, said: &Said<'_>) -> Result<(), Refusal>
-        requires { length self.old.tasks ≤ 4096 }
         ensures { Judges result self.new (judge_said self.old (Some (said_view said.now))) }
     {
         if !self.may_come(said) {
@@ -96,8 +93,7 @@ impl Progress {
     /// Judges a complete line, and adds it where it has no fault.
     #[tactic(auto, unfolding(crate::specs::Judging::judge, crate::specs::Judging::judge_said))]
     fn judge(&mut self, alloc: Global, number: u32, line: &[u8]) -> Result<(), Refusal>
-        requires few { length self.old.tasks ≤ 4096 }
-        requires first { 1 ≤ number }
+        requires { 1 ≤ number }
         ensures { Judges result self.new (judge number self.old line.now) }
     {
         if number == 1 {
@@ -118,8 +114,7 @@ impl Progress {
         number: u32,
         line: &[u8],
     ) -> Result<(), ScriptError>
-        requires few { length self.old.tasks ≤ 4096 }
-        requires first { 1 ≤ number }
+        requires { 1 ≤ number }
         ensures { Takes result self.new (taken long number self.old line.now) }
     {
         if self.ended {
@@ -217,7 +212,8 @@ impl Script {
         ensures same { Gives result (script_of bytes.now) }
         ensures sound { IfOk result (λ s. IsTrue (is_sound s)) }
     {
-        let end = bytes.len().min(BYTE_LIMIT + 1);
-        script_within(alloc, BYTE_LIMIT, &bytes[..end])
+        let most = Limits::of(NEWEST).bytes;
+        let end = bytes.len().min(most + 1);
+        script_within(alloc, most, &bytes[..end])
     }
 }

@@ -4,6 +4,7 @@ ghost use Rattle.std.specs.Prelude.{◌≡◌, ℕ, ◌<◌, ◌^◌, false};
 ghost use Rattle.step_tables.specs.Judging.{value, signed_value, no_number, no_signed, outside, outside_nice, place_no_number, place_outside, delay_no_number, delay_outside, kind_of, expiry_of};
 ghost use Rattle.step_tables.specs.Views.{place_view, delay_view};
 
+use crate::limits::MOST_DELAY;
 use crate::shapes::{Delay, Place};
 use crate::tables::{Expiry, Kind};
 use crate::words::{number_of, signed_of};
@@ -41,10 +42,10 @@ fn no_signed(word: &[u8]) -> bool
 }
 
 /// Whether n is not from `low` to `high`.
-pub(crate) fn outside(low: u64, high: u64, n: u64) -> bool
+pub(crate) fn outside(low: u32, high: u32, n: u64) -> bool
     ensures { result ≡ outside low high n }
 {
-    n < low || high < n
+    n < low as u64 || (high as u64) < n
 }
 
 /// Whether n is no nice.
@@ -98,14 +99,13 @@ pub(crate) fn delay_outside(delay: Delay<'_>) -> bool
 {
     match delay {
         Delay::Keeps | Delay::Never => false,
-        Delay::After(ticks) => outside(1, 1_073_741_824, value(ticks)),
+        Delay::After(ticks) => outside(1, MOST_DELAY, value(ticks)),
     }
 }
 
-/// A number from `low` to `high`, which is below 2^32.
-pub(crate) fn number_within(low: u64, high: u64, word: &[u8]) -> u32
-    requires range { high < 2 ^ 32 }
-    requires inside { outside low high (value word.now) ≡ false }
+/// A number from `low` to `high`.
+pub(crate) fn number_within(low: u32, high: u32, word: &[u8]) -> u32
+    requires { outside low high (value word.now) ≡ false }
     ensures { result ≡ value word.now }
 {
     value(word) as u32
@@ -148,7 +148,7 @@ pub(crate) fn expiry_of(delay: Delay<'_>) -> Expiry
 {
     match delay {
         Delay::Keeps => Expiry::Keep,
-        Delay::After(ticks) => Expiry::After(number_within(1, 1_073_741_824, ticks)),
+        Delay::After(ticks) => Expiry::After(number_within(1, MOST_DELAY, ticks)),
         Delay::Never => Expiry::Never,
     }
 }

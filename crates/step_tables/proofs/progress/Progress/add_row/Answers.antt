@@ -6,18 +6,18 @@ use Rattle.step_tables.proofs.progress.Progress.add_row.Goals as goal
 
 pub row_of-requires-clause-next : goal.row_of-requires-clause-next
 row_of-requires-clause-next c =
-    let good = good_row c.args.self.now (row_view c.args.line.now) c.requires.good in
+    let good = good_row c.args.self.now (row_view c.args.line.now) c.requires in
     let P : ℕ → Type 0 = λ n. value c.args.line.now.next.now < n in
     subst P (sym c.promised.ensures) good.target.next
 
 pub add_row-requires : goal.add_row-requires
 add_row-requires c =
-    let good = good_row c.args.self.now (row_view c.args.line.now) c.requires.good in
+    let good = good_row c.args.self.now (row_view c.args.line.now) c.requires in
     inside_get _ _ _ good.target.is_due
 
 pub overflow_add-self : goal.overflow_add-self
 overflow_add-self c =
-    let good = good_row c.args.self.now (row_view c.args.line.now) c.requires.good in
+    let good = good_row c.args.self.now (row_view c.args.line.now) c.requires in
     let inside : c.args.self.now.at < length c.args.self.now.tasks = inside_get _ _ _ good.target.is_due in
-    let few = c.requires.few in
+    let count = c.len-count.ensures in
     omega arith
