@@ -13,9 +13,10 @@ use Rattle.step_tables.specs.Words.{Word, pieces, words_of}
 use Rattle.step_tables.specs.Shapes.{sets}
 use Rattle.step_tables.specs.Text.{said_words}
 use Rattle.step_tables.specs.Sound.{is_sound}
+use Rattle.text_lines.specs.Lines.{line_over}
 use Rattle.step_tables.specs.Limits.{limits_of}
-use Rattle.step_tables.specs.Judging.{version_of, value, no_number, outside, least, most, nothing, with_setting, setting_at, judged, long_line, script_within, script_of, byte_limit}
-use Rattle.step_tables.proofs.Steps.{IsTaken, header_is}
+use Rattle.step_tables.specs.Judging.{version_of, value, no_number, outside, least, most, nothing, with_setting, setting_at, script_within, script_of, byte_limit}
+use Rattle.step_tables.proofs.Steps.{IsTaken, header_is, judged}
 use Rattle.step_tables.proofs.SoundParts.{not_outside}
 use Rattle.step_tables.proofs.Walk.{nil_back, last_back, line_back, next_back, set_line, body_line_of}
 use Rattle.step_tables.proofs.Valid.{Valid, valid_step, valid_end}
@@ -34,8 +35,8 @@ pub record IsSetting (version : ℕ) (setting : Setting) (line : List ℕ) (word
 abbrev pub opened : ℕ → Progress
 opened version = record nothing { version = version }
 
-header : (long : Option ℕ) (line : List ℕ) (q : Progress) → IsTaken long 1 line nothing q → (v : ℕ) × (version_of line ≡ Some v) × (opened v ≡ q)
-header long line q is = elim is.what [ inl h ↦ (h.version, h.says, h.same) | inr h ↦ absurd (let later = h.later in cc) ]
+header : (line : List ℕ) (q : Progress) → IsTaken 1 line nothing q → (v : ℕ) × (version_of line ≡ Some v) × (opened v ≡ q)
+header line q is = elim is.what [ inl h ↦ (h.version, h.says, h.same) | inr h ↦ absurd (let later = h.later in cc) ]
 
 -- the line of a setting, behind some lines
 pub record AfterSetting (long : Option ℕ) (n : ℕ) (setting : Setting) (p : Progress) (lines : List (List ℕ)) (s : Script) : Type 0 where
@@ -81,7 +82,7 @@ pub head_of : (long : Option ℕ) (lines : List (List ℕ)) (s : Script) → jud
 unfolding with_setting setting_at
 head_of long lines s e =
     let one = next_back long 1 nothing lines s refl e in
-    let start = header long one.line one.one.after one.one.is in
+    let start = header one.line one.one.after one.one.is in
     let version : ℕ = start.0 in
     let others : judged long 2 (opened version) one.rest ≡ Ok s = ap (λ q. judged long 2 q one.rest) start.2 ∙ one.one.others in
     let two : AfterSetting long 2 Workers (opened version) one.rest s = after_setting long 2 Workers (opened version) one.rest s refl (λ h. absurd (omega arith)) (refl {a = false}) others in
@@ -139,10 +140,9 @@ sound_lines long n p (line ∷ next ∷ lines) s behind v e =
 
 -- what is read is in range
 pub within-is_sound : (limit : ℕ) (bytes : List ℕ) (s : Script) → script_within limit bytes ≡ Ok s → is_sound s ≡ true
-unfolding script_within
 within-is_sound limit bytes s e =
-    let h = head_of (long_line limit bytes) (pieces 10 bytes) s e in
-    sound_lines (long_line limit bytes) 7 (head_read (long_line limit bytes) (pieces 10 bytes) s h) h.six.rest s (lit< tt) (valid_head (long_line limit bytes) (pieces 10 bytes) s h) (head_others (long_line limit bytes) (pieces 10 bytes) s h)
+    let h = head_of (line_over limit bytes) (pieces 10 bytes) s e in
+    sound_lines (line_over limit bytes) 7 (head_read (line_over limit bytes) (pieces 10 bytes) s h) h.six.rest s (lit< tt) (valid_head (line_over limit bytes) (pieces 10 bytes) s h) (head_others (line_over limit bytes) (pieces 10 bytes) s h)
 
 pub read-is_sound : (bytes : List ℕ) (s : Script) → script_of bytes ≡ Ok s → is_sound s ≡ true
 unfolding script_of

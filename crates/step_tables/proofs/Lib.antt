@@ -11,8 +11,6 @@ pub mod Head
 pub mod WordsBack
 pub mod SoFarSaid
 pub mod ReadBack
-pub mod Limit
-pub mod WholeText
 pub mod NameAt
 pub mod LineTexts
 pub mod WordsAgain

@@ -12,10 +12,11 @@ use Rattle.step_tables.specs.declared.shapes.Setting.TheVariants.{Workers, Depth
 use Rattle.step_tables.specs.Words.{Word, pieces, is_empty}
 use Rattle.step_tables.specs.Shapes.{TaskLine, RowLine, EventLine, Said, sets, task, row, event, ends}
 use Rattle.step_tables.specs.Text.{header_of, row_said, event_said, names_of, settings_said, body_said, said_words, line_text, script_text}
-use Rattle.step_tables.specs.Judging.{may_come, all_rows, due, rows_made, value, task_of, row_of, event_of, with_task, with_row, with_event, with_line, with_row_at_end, script_from, judged, long_line, script_within}
+use Rattle.text_lines.specs.Lines.{line_over}
+use Rattle.step_tables.specs.Judging.{may_come, all_rows, due, rows_made, value, task_of, row_of, event_of, with_task, with_row, with_event, with_line, with_row_at_end, script_from, script_within}
 use Rattle.step_tables.proofs.Back.{IsBody, AreOrders, IsOrder}
 use Rattle.step_tables.proofs.Good.{GoodRow, good_row, GoodEvent, good_event, GoodTask, good_task}
-use Rattle.step_tables.proofs.Steps.{Adds, header_is}
+use Rattle.step_tables.proofs.Steps.{Adds, header_is, judged}
 use Rattle.step_tables.proofs.RowsOf.{first_of_both, second_of_both, Fresh, Filled, fresh_from_filled}
 use Rattle.step_tables.proofs.Valid.{Valid, valid_step, map_set, empty_list, test_is, clash, not_true, task_rows, row_name}
 use Rattle.step_tables.proofs.Walk.{IsClosed, nil_back, last_back, line_back, body_line_of}
@@ -220,11 +221,10 @@ text_of_lines bytes s e = lines_back bytes _ e ∙ ap (λ r. header_of s.version
 
 -- a text that is read is the text of its script
 pub within_back : (limit : ℕ) (bytes : List ℕ) (s : Script) → script_within limit bytes ≡ Ok s → bytes ≡ script_text s
-unfolding script_within
 within_back limit bytes s e =
-    let long : Option ℕ = long_line limit bytes in
-    let h = head_of (long_line limit bytes) (pieces 10 bytes) s e in
-    let others = head_others (long_line limit bytes) (pieces 10 bytes) s h in
-    let left = lines_left_of (long_line limit bytes) 7 (head_read (long_line limit bytes) (pieces 10 bytes) s h) h.six.rest s
-    (some_rest (long_line limit bytes) 7 (head_read (long_line limit bytes) (pieces 10 bytes) s h) h.six.rest s refl others) (lit< tt) (valid_head (long_line limit bytes) (pieces 10 bytes) s h) others in
-    text_of_lines bytes s (lines_of_read (long_line limit bytes) (pieces 10 bytes) s h left)
+    let long : Option ℕ = line_over limit bytes in
+    let h = head_of (line_over limit bytes) (pieces 10 bytes) s e in
+    let others = head_others (line_over limit bytes) (pieces 10 bytes) s h in
+    let left = lines_left_of (line_over limit bytes) 7 (head_read (line_over limit bytes) (pieces 10 bytes) s h) h.six.rest s
+    (some_rest (line_over limit bytes) 7 (head_read (line_over limit bytes) (pieces 10 bytes) s h) h.six.rest s refl others) (lit< tt) (valid_head (line_over limit bytes) (pieces 10 bytes) s h) others in
+    text_of_lines bytes s (lines_of_read (line_over limit bytes) (pieces 10 bytes) s h left)

@@ -13,10 +13,11 @@ use Rattle.step_tables.specs.Words.{Word, ◌>>=◌, pieces, is_empty, words_of}
 use Rattle.step_tables.specs.Shapes.{Said, sets, task, row, event, ends, setting_name}
 use Rattle.step_tables.specs.Text.{header_of, said_words, lines_text}
 use Rattle.step_tables.specs.Limits.{newest, limits_of}
-use Rattle.step_tables.specs.Judging.{version_of, judge_header, first_fault, tests, may_come, outside, least, most, nothing, with_setting, with_line, judge_tested, judge_said, setting_at, said_in, said_of, judge, at_line, taken, closed, go_on, judged, script_from}
+use Rattle.text_lines.specs.Lines.{at_line, line_taken, closed, folded}
+use Rattle.step_tables.specs.Judging.{version_of, judge_header, first_fault, tests, may_come, outside, least, most, nothing, with_setting, with_line, judge_tested, judge_said, setting_at, said_in, said_of, judge, script_from, scripts, script_read}
 use Rattle.step_tables.proofs.Bounds.{inside_small}
 use Rattle.step_tables.proofs.Back.{IsBody}
-use Rattle.step_tables.proofs.Steps.{judged_more}
+use Rattle.step_tables.proofs.Steps.{judged, judged_more}
 use Rattle.step_tables.proofs.Walk.{get_past}
 use Rattle.step_tables.proofs.RowsOf.{both, first_of_both, second_of_both}
 use Rattle.step_tables.proofs.WordsAgain.{is_word, are_words, words_again, words_one_line, first_piece, number_is_word, is_number, value_again}
@@ -79,8 +80,8 @@ chosen_then false x y e = absurd (cc)
 
 -- a line that passes is taken
 taken_said : (n : ℕ) (p : Progress) (x : Said) → 1 < n → p.ended ≡ false → said_of n (bytes_of x) ≡ Some x → may_come p x ≡ true → first_fault (tests p x) ≡ None
-    → taken None n p (bytes_of x) ≡ Ok (with_line p x)
-unfolding taken judge judge_said judge_tested
+    → line_taken scripts None n p (bytes_of x) ≡ Ok (with_line p x)
+unfolding line_taken judge judge_said judge_tested
 taken_said n p x later unended says comes good =
     chosen_else p.ended (Err _) (at_line n (judge n p (bytes_of x))) unended
     ∙ ap (at_line n) (chosen_else (n == 1) _ (judge_said p (said_of n (bytes_of x))) (not_first n later)
@@ -101,12 +102,11 @@ lines_some (x ∷ xs) = refl
 
 -- lines that pass, up to the last, make their script
 pub run_lines : (n : ℕ) (p q : Progress) (xs : List Said) → 6 < n → Runs p xs q → q.ended ≡ true → judged None n p (map bytes_of xs ++ [] ∷ []) ≡ Ok (script_from q)
-unfolding judged closed
+unfolding folded closed
 run_lines n p q [] behind r e =
-    ap (λ k. closed None n k []) r ∙ chosen_then q.ended (Ok (script_from q)) _ e
+    ap (λ k. judged None n k ([] ∷ [])) r ∙ ap script_read (chosen_then q.ended (Ok q) _ e)
 run_lines n p q (x ∷ xs) behind r e =
-    judged_more None n p (bytes_of x) (map bytes_of xs ++ [] ∷ []) (lines_some xs)
-    ∙ ap (λ t. go_on t (λ k. judged None (n + 1) k (map bytes_of xs ++ [] ∷ []))) (taken_said n p x (omega arith) r.0.unended (body_said_again n x behind r.0.body r.0.words) r.0.comes r.0.good)
+    judged_more None n p (with_line p x) (bytes_of x) (map bytes_of xs ++ [] ∷ []) (lines_some xs) (taken_said n p x (omega arith) r.0.unended (body_said_again n x behind r.0.body r.0.words) r.0.comes r.0.good)
     ∙ run_lines (n + 1) (with_line p x) q xs (omega arith) r.1 e
 
 -- a setting's line
@@ -133,8 +133,7 @@ pub setting_step : (n : ℕ) (setting : Setting) (v : ℕ) (p : Progress) (lines
 unfolding with_line
 setting_step n setting v p lines later at unended range some =
     let small = inside_small p.version setting v range in
-    judged_more None n p (bytes_of (sets setting (decimal v))) lines some
-    ∙ ap (λ t. go_on t (λ k. judged None (n + 1) k lines))
+    judged_more None n p (with_line p (sets setting (decimal v))) (bytes_of (sets setting (decimal v))) lines some
     (taken_said n p (sets setting (decimal v)) later unended (setting_said_again n setting v at small) refl
     (no_kind _ kinds.Number _ (is_number v small) (no_kind _ kinds.LimitPassed None (ap (outside (least setting) (most (limits_of p.version) setting)) (value_again v small) ∙ range) refl)))
     ∙ ap (λ m. judged None (n + 1) (with_setting p setting m) lines) (value_again v small)
@@ -151,14 +150,13 @@ header_again version e =
     one : (n : ℕ) → within 1 newest n ≡ true → (n == 2) ≡ false → 1 ≡ n
     one n e k = grind (arith, nat_tests)
 
-header_taken : (version : ℕ) → within 1 newest version ≡ true → taken None 1 nothing (header_of version) ≡ Ok (record nothing { version = version })
-unfolding taken judge judge_header
+header_taken : (version : ℕ) → within 1 newest version ≡ true → line_taken scripts None 1 nothing (header_of version) ≡ Ok (record nothing { version = version })
+unfolding line_taken judge judge_header
 header_taken version e = ap (λ o. at_line 1 (judge_header nothing o)) (header_again version e)
 
 pub header_step : (version : ℕ) → within 1 newest version ≡ true → (lines : List (List ℕ)) → is_empty lines ≡ false → judged None 1 nothing (header_of version ∷ lines) ≡ judged None 2 (record nothing { version = version }) lines
 header_step version e lines some =
-    judged_more None 1 nothing (header_of version) lines some
-    ∙ ap (λ t. go_on t (λ k. judged None 2 k lines)) (header_taken version e)
+    judged_more None 1 nothing (record nothing { version = version }) (header_of version) lines some (header_taken version e)
 
 -- the lines of a text without line feeds in them
 pub cut_lines : (xs : List Said) → list_all (λ x. are_words (said_words x)) xs ≡ true → pieces 10 (lines_text xs) ≡ map bytes_of xs ++ [] ∷ []

@@ -1,15 +1,18 @@
 -- What is known of a line that was taken.
-use Rattle.std.proofs.Common.{◌≡◌, ℕ, ◌+◌, Bool, true, false, cond, List, [], ◌∷◌, refl, inl, inr, ◌⊎◌, subst}
+use Rattle.std.proofs.Common.{◌≡◌, ℕ, ◌+◌, Bool, true, false, cond, List, [], ◌∷◌, refl, inl, inr, ◌⊎◌, ap, subst}
 use Rattle.std.specs.Prelude.{Option, Some, None, Result, Ok, Err, codes, bytes_eq, ◌==◌}
 use Rattle.std.proofs.lemmas.Bool.{eqb-true}
 use Rattle.step_tables.specs.declared.faults.FaultKind.{FaultKind}
+use Rattle.step_tables.specs.declared.faults.ScriptFault.{ScriptFault}
+use Rattle.step_tables.specs.declared.tables.Script.{Script}
 use Rattle.step_tables.specs.declared.progress.Progress.{Progress}
 use Rattle.step_tables.specs.Words.{is_empty}
 use Rattle.step_tables.specs.Limits.{newest}
 use Rattle.step_tables.specs.Text.{header_of}
 use Rattle.step_tables.specs.Sound.{within}
 use Rattle.step_tables.specs.Shapes.{Said}
-use Rattle.step_tables.specs.Judging.{version_of, judge_header, first_fault, tests, may_come, with_line, judge_tested, judge_said, said_of, judge, at_line, taken, is_line, go_on, judged}
+use Rattle.text_lines.specs.Lines.{is_line, at_line, line_taken, go_on, folded}
+use Rattle.step_tables.specs.Judging.{version_of, judge_header, first_fault, tests, may_come, with_line, judge_tested, judge_said, said_of, judge, scripts, script_read}
 use Rattle.step_tables.proofs.Back.{bytes_same}
 
 -- the first line
@@ -32,9 +35,8 @@ pub record IsSaid (n : ℕ) (line : List ℕ) (p q : Progress) : Type 0 where
   pub adds : Adds p said q
 
 -- a line that was taken
-pub record IsTaken (long : Option ℕ) (n : ℕ) (line : List ℕ) (p q : Progress) : Type 0 where
+pub record IsTaken (n : ℕ) (line : List ℕ) (p q : Progress) : Type 0 where
   pub unended : p.ended ≡ false
-  pub short : is_line long n ≡ false
   pub what : IsHeader n line p q ⊎ IsSaid n line p q
 
 -- which way a choice went
@@ -90,15 +92,19 @@ at_line_back : (n : ℕ) (r : Result Progress FaultKind) (q : Progress) → at_l
 at_line_back n (Ok p) q e = cc
 at_line_back n (Err kind) q e = absurd (cc)
 
-pub taken_back : (long : Option ℕ) (n : ℕ) (line : List ℕ) (p q : Progress) → taken long n p line ≡ Ok q → IsTaken long n line p q
-unfolding taken
-taken_back long n line p q e =
+pub taken_back : (over : Option ℕ) (n : ℕ) (line : List ℕ) (p q : Progress) → line_taken scripts over n p line ≡ Ok q → IsTaken n line p q
+unfolding line_taken
+taken_back over n line p q e =
     let (open_, more) = chose_other p.ended _ _ _ e (λ h. cc) in
-    let (short, verdict) = chose_other (is_line long n) _ _ _ more (λ h. cc) in
-    record { unended = open_; short = short; what = judge_back n line p q (at_line_back n _ q verdict) }
+    let (short, verdict) = chose_other (is_line over n) _ _ _ more (λ h. cc) in
+    record { unended = open_; what = judge_back n line p q (at_line_back n _ q verdict) }
+
+-- what the lines from number n on make
+abbrev pub judged : Option ℕ → ℕ → Progress → List (List ℕ) → Result Script ScriptFault
+judged over n p lines = script_read (folded scripts over n p lines)
 
 -- the lines of a text, one at a time
-pub judged_more : (long : Option ℕ) (n : ℕ) (p : Progress) (line : List ℕ) (lines : List (List ℕ)) → is_empty lines ≡ false → judged long n p (line ∷ lines) ≡ go_on (taken long n p line) (λ q. judged long (n + 1) q lines)
-unfolding judged
-judged_more long n p line [] e = absurd (cc)
-judged_more long n p line (next ∷ lines) e = refl
+pub judged_more : (over : Option ℕ) (n : ℕ) (p q : Progress) (line : List ℕ) (lines : List (List ℕ)) → is_empty lines ≡ false → line_taken scripts over n p line ≡ Ok q → judged over n p (line ∷ lines) ≡ judged over (n + 1) q lines
+unfolding folded
+judged_more over n p q line [] some e = absurd (cc)
+judged_more over n p q line (next ∷ lines) some e = ap (λ r. script_read (go_on r (λ k. folded scripts over (n + 1) k (next ∷ lines)))) e

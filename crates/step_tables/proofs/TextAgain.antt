@@ -1,6 +1,6 @@
 -- The text of a script in range is read as that script.
-use Rattle.std.proofs.Common.{◌≡◌, ℕ, suc, ◌+◌, ◌^◌, ◌≤◌, ◌<◌, true, false, cond, List, [], ◌∷◌, ◌++◌, map, length, take, refl, ap, sym, ◌∙◌, arith, subst, append_assoc, append-nil, length-append, lit<, inl, inr}
-use Rattle.std.specs.Prelude.{Some, None, Ok, not, ◌==◌, nat_lt, nat_le, decimal, count_by, flat_map}
+use Rattle.std.proofs.Common.{◌≡◌, ℕ, suc, ◌+◌, ◌^◌, ◌≤◌, ◌<◌, true, false, List, [], ◌∷◌, ◌++◌, map, length, refl, ap, sym, ◌∙◌, arith, subst, append_assoc, append-nil, length-append, lit<, inl, inr}
+use Rattle.std.specs.Prelude.{None, Ok, not, ◌==◌, nat_lt, nat_le, decimal, flat_map}
 use Rattle.std.specs.List.{list_all}
 use Rattle.std.proofs.lemmas.Bool.{cases_Bool}
 use Rattle.std.proofs.lemmas.Bool.Decides.{nat_tests}
@@ -18,7 +18,9 @@ use Rattle.step_tables.specs.Shapes.{Said, sets, ends}
 use Rattle.step_tables.specs.Text.{header_of, said_words, task_said, rows_said, event_said, names_of, settings_said, body_said, lines_text, script_text}
 use Rattle.step_tables.specs.Sound.{is_sound_action, is_sound_task, rising_below, is_sound}
 use Rattle.step_tables.specs.Limits.{limits_of}
-use Rattle.step_tables.specs.Judging.{value, least, most, outside, event_of, with_event, with_line, with_setting, nothing, script_from, setting_at, judged, long_line, script_within, script_of, byte_limit}
+use Rattle.text_lines.proofs.LimitLaws.{short_text}
+use Rattle.step_tables.specs.Judging.{value, least, most, outside, event_of, with_event, with_line, with_setting, nothing, script_from, setting_at, script_within, script_of, byte_limit, scripts, script_read}
+use Rattle.step_tables.proofs.Steps.{judged}
 use Rattle.step_tables.proofs.RowsOf.{both, first_of_both, second_of_both}
 use Rattle.step_tables.proofs.Valid.{last_from, last_is}
 use Rattle.step_tables.proofs.WordsAgain.{are_words, number_is_word, is_number, value_again, first_piece}
@@ -195,8 +197,8 @@ judged_again s r =
 
 -- the text of a script in range is read as that script
 pub text_again : (s : Script) → is_sound s ≡ true → length (script_text s) ≤ byte_limit → script_of (script_text s) ≡ Ok s
-unfolding script_of script_within long_line
+unfolding script_of
 text_again s e short =
     ap (λ bytes. script_within byte_limit bytes) (take_all (byte_limit + 1) (script_text s) (omega arith))
-    ∙ ap (λ b. judged (cond b (Some (1 + count_by (λ c. c == 10) (take byte_limit (script_text s)))) None) 1 nothing (pieces 10 (script_text s))) (not_less byte_limit (length (script_text s)) short)
+    ∙ ap script_read (short_text scripts nothing byte_limit (script_text s) short)
     ∙ judged_again s (in_range s e)

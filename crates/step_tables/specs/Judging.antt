@@ -1,5 +1,5 @@
 -- What the lines of a script make, which fault a line has, and the script of a text: docs/SCRIPT.md, "Order" and "Faults".
-use Rattle.std.specs.Prelude.{ℕ, ◌+◌, ◌-◌, ℤ, pos, negsuc, int_lt, Bool, true, false, not, ◌&&◌, ◌||◌, List, [], ◌∷◌, ◌++◌, map, length, take, Option, Some, None, Result, Ok, Err, option_map, is_none, unwrap_or, ◌==◌, nat_lt, nat_le, bytes_eq, count_by, position, slice_get, slice_index, slice_set, if◌then◌else◌}
+use Rattle.std.specs.Prelude.{ℕ, ◌+◌, ◌-◌, ℤ, pos, negsuc, int_lt, Bool, true, false, not, ◌&&◌, ◌||◌, List, [], ◌∷◌, ◌++◌, map, length, take, Option, Some, None, Result, Ok, Err, option_map, is_none, unwrap_or, ◌==◌, nat_lt, nat_le, bytes_eq, position, slice_get, slice_index, slice_set, if◌then◌else◌}
 use Rattle.std.specs.List.{list_any}
 use Rattle.step_tables.specs.declared.tables.Action.{Action}
 use Rattle.step_tables.specs.declared.tables.Action.TheVariants.{Wake, Kill}
@@ -18,9 +18,10 @@ use Rattle.step_tables.specs.declared.shapes.Setting.{Setting}
 use Rattle.step_tables.specs.declared.shapes.Setting.TheVariants.{Workers, Depth, Start, Step, Rounds}
 use Rattle.step_tables.specs.declared.faults.FaultKind.{FaultKind}
 use Rattle.step_tables.specs.declared.faults.FaultKind.TheVariants as kinds
+use Rattle.text_lines.specs.Lines.{Format, read_within}
 use Rattle.step_tables.specs.Faults.{number_of_kind}
 use Rattle.step_tables.specs.Limits.{newest, limits_of, most_rows, most_actions, most_delay}
-use Rattle.step_tables.specs.Words.{Word, ◌>>=◌, ◌is◌, pieces, is_empty, words_of, number_of, signed_of, reasons_of}
+use Rattle.step_tables.specs.Words.{Word, ◌>>=◌, ◌is◌, is_empty, words_of, number_of, signed_of, reasons_of}
 use Rattle.step_tables.specs.Shapes as shapes
 use Rattle.step_tables.specs.Shapes.{Order, Delay, Place, TaskLine, RowLine, EventLine, Said, setting_line, body_line}
 
@@ -314,56 +315,30 @@ judge n p line = if n == 1
     then judge_header p (version_of line)
     else judge_said p (said_of n line)
 
--- the most bytes that a script may have
-abbrev pub byte_limit : ℕ
-byte_limit = (limits_of newest).bytes
-
--- the line in which the byte behind the limit stands
-unfoldable pub long_line : ℕ → List ℕ → Option ℕ
-long_line limit bytes = if nat_lt limit (length bytes) then Some (1 + count_by (λ b. b == 10) (take limit bytes)) else None
-
--- whether this line is that one
-abbrev pub is_line : Option ℕ → ℕ → Bool
-is_line None n = false
-is_line (Some long) n = long == n
+-- how the lines of a script are judged
+abbrev pub scripts : Format Progress FaultKind
+scripts = record { judge = judge; has_ended = λ p. p.ended; behind = kinds.Word; over = kinds.LimitPassed; short = kinds.Truncated }
 
 -- a fault, by its line and its kind
-abbrev pub fault : ℕ → FaultKind → ScriptFault
-fault line kind = record { line = line; kind = number_of_kind kind }
+abbrev pub fault : ℕ × FaultKind → ScriptFault
+fault f = record { line = f.0; kind = number_of_kind f.1 }
 
 -- the script that is read
 unfoldable pub script_from : Progress → Script
 script_from p = record { version = p.version; workers = p.workers; depth = p.depth; start = p.start; step = p.step; rounds = p.rounds; tasks = p.tasks; events = p.events }
 
--- the verdict on a line, with the line's number
-abbrev pub at_line : ℕ → Result Progress FaultKind → Result Progress ScriptFault
-at_line n (Ok p) = Ok p
-at_line n (Err kind) = Err (fault n kind)
-
--- what is read with a complete line, or the line's fault
-unfoldable pub taken : Option ℕ → ℕ → Progress → List ℕ → Result Progress ScriptFault
-taken long n p line = if p.ended then Err (fault n kinds.Word) else (if is_line long n then Err (fault n kinds.LimitPassed) else at_line n (judge n p line))
-
--- what the open piece makes of what was read before
-unfoldable pub closed : Option ℕ → ℕ → Progress → List ℕ → Result Script ScriptFault
-closed long n p piece = if p.ended
-    then (if is_empty piece then Ok (script_from p) else Err (fault n kinds.Word))
-    else Err (fault n (if is_line long n then kinds.LimitPassed else kinds.Truncated))
-
--- the fault of the lines so far, or what the next lines make
-abbrev pub go_on : Result Progress ScriptFault → (Progress → Result Script ScriptFault) → Result Script ScriptFault
-go_on (Ok p) more = more p
-go_on (Err first) more = Err first
-
--- the lines from number n on, of which the last is the open piece
-unfoldable pub judged : Option ℕ → ℕ → Progress → List (List ℕ) → Result Script ScriptFault
-judged long n p [] = closed long n p []
-judged long n p (line ∷ []) = closed long n p line
-judged long n p (line ∷ next ∷ lines) = go_on (taken long n p line) (λ q. judged long (n + 1) q (next ∷ lines))
+-- the script that is read, or the first fault
+abbrev pub script_read : Result Progress (ℕ × FaultKind) → Result Script ScriptFault
+script_read (Ok p) = Ok (script_from p)
+script_read (Err f) = Err (fault f)
 
 -- the script of a text of at most so many bytes
-unfoldable pub script_within : ℕ → List ℕ → Result Script ScriptFault
-script_within limit bytes = judged (long_line limit bytes) 1 nothing (pieces 10 bytes)
+abbrev pub script_within : ℕ → List ℕ → Result Script ScriptFault
+script_within limit bytes = script_read (read_within scripts nothing limit bytes)
+
+-- the most bytes that a script may have
+abbrev pub byte_limit : ℕ
+byte_limit = (limits_of newest).bytes
 
 -- the script of a text, or the line and the kind of its first fault; no byte further behind the limit counts
 unfoldable pub script_of : List ℕ → Result Script ScriptFault

@@ -1,6 +1,7 @@
 -- What the reader holds, as words, shapes and scripts (docs/SCRIPT.md, "Lines"): it keeps parts of the text where they lie.
-use Rattle.std.specs.Prelude.{◌≡◌, List, map, Result, Ok, Err}
+use Rattle.std.specs.Prelude.{◌≡◌, ℕ, List, map, Result, Ok, Err}
 use Rattle.step_tables.specs.Words.{Word}
+use Rattle.step_tables.specs.Judging.{fault}
 use Rattle.step_tables.specs.Shapes.{Order, wakes, kills, Delay, keeps, after, never, Place, pinned, shared, tasklet, TaskLine, RowLine, EventLine, Said, sets, task, row, event, ends}
 use Rattle.step_tables.specs.declared.tables.Script.{Script}
 use Rattle.step_tables.specs.declared.faults.FaultKind.{FaultKind}
@@ -80,9 +81,10 @@ Judges (Err (Kind kind)) new verdict = verdict ≡ Err kind
 Judges (Err NoMemory) new verdict = Unit {0}
 
 -- the same with the line's number
-abbrev pub Takes : Result (Unit {0}) ScriptError → Progress → Result Progress ScriptFault → Type 0
+abbrev pub Takes : Result (Unit {0}) ScriptError → Progress → Result Progress (ℕ × FaultKind) → Type 0
 Takes (Ok done) new verdict = verdict ≡ Ok new
-Takes (Err (Refused at)) new verdict = verdict ≡ Err at
+Takes (Err (Refused at)) new (Ok p) = ⊥
+Takes (Err (Refused at)) new (Err first) = at ≡ fault first
 Takes (Err Memory) new verdict = Unit {0}
 
 -- what was read is the script of the text, or the fault is the text's first, unless memory ran out

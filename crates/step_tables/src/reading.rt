@@ -2,9 +2,10 @@
 
 ghost use Rattle.std.specs.Prelude.{◌≡◌, ℕ, ◌<◌, ◌≤◌, ◌+◌, ◌^◌, length, Option, option_map, Ok, Err, Some, IfSome, IfOk, IsTrue, ◌-◌};
 ghost use Rattle.step_tables.specs.declared.faults.ScriptError.TheVariants.{Refused};
+ghost use Rattle.text_lines.specs.Lines.{line_taken, closed};
 ghost use Rattle.step_tables.specs.Words.{words_of};
 ghost use Rattle.step_tables.specs.Shapes.{setting_line, body_line};
-ghost use Rattle.step_tables.specs.Judging.{judge_said, setting_at, said_in, said_of, judge, judge_header, version_of, long_line, is_line, taken, closed, fault, script_within, script_of};
+ghost use Rattle.step_tables.specs.Judging.{judge_said, setting_at, said_in, said_of, judge, judge_header, version_of, scripts, fault, script_read, script_within, script_of};
 ghost use Rattle.step_tables.specs.Sound.{is_sound};
 ghost use Rattle.step_tables.specs.Views.{said_view, Judges, Takes, Gives, words_in};
 
@@ -15,7 +16,7 @@ use crate::shapes::{Said, Setting, body_line, setting_line};
 use crate::tables::Script;
 use crate::words::words_of;
 use std::alloc::{AllocError, Global};
-use text_lines::{Words, next_line};
+use text_lines::{Words, is_line, line_over, next_line};
 
 /// The setting whose line this is.
 #[tactic(auto, unfolding(crate::specs::Judging::setting_at))]
@@ -106,21 +107,21 @@ impl Progress {
     }
 
     /// Takes a complete line, or answers its fault.
-    #[tactic(auto, unfolding(crate::specs::Judging::taken))]
+    #[tactic(auto, unfolding(text_lines::specs::Lines::line_taken))]
     fn take_line(
         &mut self,
         alloc: Global,
-        long: Option<u32>,
+        over: Option<u32>,
         number: u32,
         line: &[u8],
     ) -> Result<(), ScriptError>
         requires { 1 ≤ number }
-        ensures { Takes result self.new (taken long number self.old line.now) }
+        ensures { Takes result self.new (line_taken scripts over number self.old line.now) }
     {
         if self.ended {
             return refuse(number, FaultKind::Word);
         }
-        if long == Some(number) {
+        if is_line(over, number) {
             return refuse(number, FaultKind::LimitPassed);
         }
         match self.judge(alloc, number, line) {
@@ -131,15 +132,15 @@ impl Progress {
     }
 
     /// The script, where the line `end` has come and nothing stands behind it.
-    #[tactic(auto, unfolding(crate::specs::Judging::closed, crate::specs::Judging::script_from))]
-    fn close(self, long: Option<u32>, number: u32, piece: &[u8]) -> Result<Script, ScriptError>
-        requires { IfOk (closed long number self piece.now) (λ s. IsTrue (is_sound s)) }
-        ensures { Gives result (closed long number self piece.now) }
+    #[tactic(auto, unfolding(text_lines::specs::Lines::closed, crate::specs::Judging::script_from))]
+    fn close(self, over: Option<u32>, number: u32, piece: &[u8]) -> Result<Script, ScriptError>
+        requires { IfOk (script_read (closed scripts over number self piece.now)) (λ s. IsTrue (is_sound s)) }
+        ensures { Gives result (script_read (closed scripts over number self piece.now)) }
     {
         if !self.ended {
             return refuse(
                 number,
-                if long == Some(number) {
+                if is_line(over, number) {
                     FaultKind::LimitPassed
                 } else {
                     FaultKind::Truncated
@@ -164,7 +165,7 @@ impl Progress {
 
 /// The fault of a line.
 fn refuse<T>(line: u32, kind: FaultKind) -> Result<T, ScriptError>
-    ensures { result ≡ Err (Refused (fault line kind)) }
+    ensures { result ≡ Err (Refused (fault (line, kind))) }
 {
     Err(ScriptError::Refused(ScriptFault {
         line,
@@ -172,35 +173,22 @@ fn refuse<T>(line: u32, kind: FaultKind) -> Result<T, ScriptError>
     }))
 }
 
-/// The line in which the byte behind the limit stands.
-#[tactic(auto, unfolding(crate::specs::Judging::long_line))]
-fn long_line(limit: usize, bytes: &[u8]) -> Option<u32>
-    requires { length bytes.now < 2 ^ 32 - 1 }
-    ensures { result ≡ long_line limit bytes.now }
-{
-    if bytes.len() <= limit {
-        return None;
-    }
-    let before = bytes[..limit].iter().filter(|byte| **byte == b'\n').count();
-    Some(before as u32 + 1)
-}
-
 /// The script of a text of at most so many bytes.
-#[tactic(auto, unfolding(crate::specs::Judging::script_within))]
 fn script_within(alloc: Global, limit: usize, bytes: &[u8]) -> Result<Script, ScriptError>
-    requires { length bytes.now < 2 ^ 32 - 1 }
+    requires short { limit + 2 < 2 ^ 32 }
+    requires counted { length bytes.now < 2 ^ 32 - 1 }
     ensures { Gives result (script_within limit bytes.now) }
 {
-    let long = long_line(limit, bytes);
+    let over = line_over(limit, bytes);
     let mut progress = Progress::new(alloc);
     let mut number: u32 = 1;
     let mut rest = bytes;
     'lines: loop {
         let (line, more) = next_line(rest);
         let Some(more) = more else {
-            return progress.close(long, number, line);
+            return progress.close(over, number, line);
         };
-        progress.take_line(alloc, long, number, line)?;
+        progress.take_line(alloc, over, number, line)?;
         number += 1;
         rest = more;
     }

@@ -1,4 +1,4 @@
-use Rattle.step_tables.proofs.Limit.{read_back}
+use Rattle.step_tables.proofs.Length.{read_back}
 use Rattle.step_tables.proofs.laws.read_back.Goals as goal
 
 pub returns : goal.returns

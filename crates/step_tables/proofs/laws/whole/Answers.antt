@@ -1,4 +1,4 @@
-use Rattle.step_tables.proofs.WholeText.{whole_text}
+use Rattle.step_tables.proofs.Length.{whole_text}
 use Rattle.step_tables.proofs.laws.whole.Goals as goal
 
 pub returns : goal.returns

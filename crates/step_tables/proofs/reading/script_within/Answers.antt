@@ -3,6 +3,7 @@ use Rattle.std.specs.Prelude.{IfSome}
 use Rattle.std.proofs.lemmas.Result.{err_from_is_err_and}
 use Rattle.step_tables.specs.Words.{pieces}
 use Rattle.text_lines.specs.Pieces.{pieces_left}
+use Rattle.step_tables.specs.Judging.{script_read}
 use Rattle.step_tables.specs.Views.{Gives}
 use Rattle.step_tables.proofs.Head.{read_sound}
 use Rattle.step_tables.proofs.LineLoop.{before_next, gives_fault, before_end}
@@ -11,7 +12,7 @@ use Rattle.step_tables.proofs.reading.script_within.Goals as goal
 pub returns-in_default : goal.returns-in_default
 returns-in_default c =
     let cut : pieces 10 c.lines.rest.now ≡ c.next_line.result.0.now ∷ [] = c.next_line.ensures.parted ∙ ap (λ r. c.next_line.result.0.now ∷ pieces_left 10 r) c.in_default.is in
-    subst (λ r. Gives c.close.result r) (before_end _ c.args.bytes.now _ _ _ _ _ cut c.lines.invariant) c.close.ensures
+    subst (λ r. Gives c.close.result (script_read r)) (before_end _ c.args.bytes.now _ _ _ _ _ cut c.lines.invariant) c.close.ensures
 
 pub returns-in_err-take_line : goal.returns-in_err-take_line
 returns-in_err-take_line c =
@@ -28,4 +29,4 @@ lines-preserved c =
 pub close-requires : goal.close-requires
 close-requires c =
     let cut : pieces 10 c.lines.rest.now ≡ c.next_line.result.0.now ∷ [] = c.next_line.ensures.parted ∙ ap (λ r. c.next_line.result.0.now ∷ pieces_left 10 r) c.in_default.is in
-    read_sound _ c.args.limit c.args.bytes.now (before_end _ c.args.bytes.now _ _ _ _ _ cut c.lines.invariant)
+    read_sound _ c.args.limit c.args.bytes.now (ap script_read (before_end _ c.args.bytes.now _ _ _ _ _ cut c.lines.invariant))
