@@ -1,5 +1,5 @@
 -- The limits of each version can be counted and written, and what the tests of a script's ranges say together.
-use Rattle.std.proofs.Common.{◌≡◌, ℕ, ◌^◌, ◌≤◌, ◌<◌, true, false, length, arith, lit<}
+use Rattle.std.proofs.Common.{◌≡◌, ℕ, ◌^◌, ◌≤◌, ◌<◌, true, false, length, arith, lit<, lit≤, ◌+◌}
 use Rattle.std.specs.Prelude.{nat_le}
 use Rattle.std.specs.List.{list_all}
 use Rattle.std.proofs.lemmas.Bool.Decides.{nat_tests}
@@ -7,13 +7,17 @@ use Rattle.step_tables.specs.declared.shapes.Setting.{Setting}
 use Rattle.step_tables.specs.declared.shapes.Setting.TheVariants.{Workers, Depth, Start, Step, Rounds}
 use Rattle.step_tables.specs.declared.tables.Script.{Script}
 use Rattle.step_tables.specs.Limits.{newest, limits_of, most_rows, most_delay}
-use Rattle.step_tables.specs.Judging.{least, most, outside}
+use Rattle.step_tables.specs.Judging.{least, most, outside, byte_limit}
 use Rattle.step_tables.specs.Text.{names_of}
 use Rattle.step_tables.specs.Sound.{within, is_sound_action, is_sound_task, distinct_names, rising_below, is_sound}
 use Rattle.step_tables.proofs.RowsOf.{first_of_both, second_of_both}
 
 pub tasks_small : (version : ℕ) → (limits_of version).tasks < 2 ^ 32
 tasks_small version = lit< tt
+
+-- no version has more bytes than the newest
+pub bytes_most : (version : ℕ) → (limits_of version).bytes + 1 ≤ byte_limit + 1
+bytes_most version = lit≤ tt
 
 -- a setting in its range has at most ten digits
 setting_small : (version : ℕ) (setting : Setting) → most (limits_of version) setting < 10 ^ 10

@@ -1,5 +1,5 @@
 -- The first six lines of a script, and the script as a whole.
-use Rattle.std.proofs.Common.{◌≡◌, ℕ, ◌+◌, ◌<◌, true, false, List, [], ◌∷◌, take, refl, ap, sym, ◌∙◌, arith, inl, inr, lit<}
+use Rattle.std.proofs.Common.{◌≡◌, ℕ, ◌+◌, ◌<◌, true, false, List, [], ◌∷◌, refl, ap, sym, ◌∙◌, arith, inl, inr, lit<}
 use Rattle.std.specs.Prelude.{Option, Some, Result, Ok, Err, IfOk, IsTrue, nat_le}
 use Rattle.std.proofs.lemmas.Bool.Decides.{nat_tests}
 use Rattle.step_tables.specs.declared.tables.Script.{Script}
@@ -15,7 +15,7 @@ use Rattle.step_tables.specs.Text.{said_words}
 use Rattle.step_tables.specs.Sound.{is_sound}
 use Rattle.text_lines.specs.Lines.{line_over}
 use Rattle.step_tables.specs.Limits.{limits_of}
-use Rattle.step_tables.specs.Judging.{version_of, value, no_number, outside, least, most, nothing, with_setting, setting_at, script_within, script_of, byte_limit}
+use Rattle.step_tables.specs.Judging.{version_of, value, no_number, outside, least, most, nothing, with_setting, setting_at, script_within}
 use Rattle.step_tables.proofs.Steps.{IsTaken, header_is, judged}
 use Rattle.step_tables.proofs.SoundParts.{not_outside}
 use Rattle.step_tables.proofs.Walk.{nil_back, last_back, line_back, next_back, set_line, body_line_of}
@@ -112,16 +112,19 @@ valid_head long lines s h = record {
     step = not_outside 1 (limits_of h.version).step (value h.five.word) h.five.is.range;
     rounds = not_outside 1 (limits_of h.version).rounds (value h.six.word) h.six.is.range;
   };
-  few = refl;
+  few = none_over (limits_of h.version).tasks;
   tables = tt;
   names = refl;
-  few_events = refl;
+  few_events = none_over (limits_of h.version).events;
   actions = refl;
   rising = refl;
   whole = λ some. refl;
   done = λ ended. refl;
 }
   where
+    none_over : (high : ℕ) → nat_le 0 high ≡ true
+    none_over high = grind (arith, nat_tests)
+
     at_most : (n high : ℕ) → outside 0 high n ≡ false → nat_le n high ≡ true
     at_most n high e = grind (arith, nat_tests)
 
@@ -143,10 +146,6 @@ pub within-is_sound : (limit : ℕ) (bytes : List ℕ) (s : Script) → script_w
 within-is_sound limit bytes s e =
     let h = head_of (line_over limit bytes) (pieces 10 bytes) s e in
     sound_lines (line_over limit bytes) 7 (head_read (line_over limit bytes) (pieces 10 bytes) s h) h.six.rest s (lit< tt) (valid_head (line_over limit bytes) (pieces 10 bytes) s h) (head_others (line_over limit bytes) (pieces 10 bytes) s h)
-
-pub read-is_sound : (bytes : List ℕ) (s : Script) → script_of bytes ≡ Ok s → is_sound s ≡ true
-unfolding script_of
-read-is_sound bytes s e = within-is_sound byte_limit (take (byte_limit + 1) bytes) s e
 
 pub gives_sound : (r : Result Script ScriptError) (limit : ℕ) (bytes : List ℕ) → Gives r (script_within limit bytes) → IfOk r (λ s. IsTrue (is_sound s))
 gives_sound (Ok s) limit bytes e = within-is_sound limit bytes s e

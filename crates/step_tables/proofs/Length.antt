@@ -1,37 +1,49 @@
 -- The limit of bytes: a text that is read has no more, and what stands behind the byte past the limit counts for nothing.
-use Rattle.std.proofs.Common.{◌≡◌, ℕ, ◌+◌, ◌≤◌, ◌<◌, List, length, take, ap, sym, ◌∙◌, arith, ⊎_elim}
-use Rattle.std.specs.Prelude.{Ok}
+use Rattle.std.proofs.Common.{◌≡◌, ℕ, suc, [], ◌+◌, ◌≤◌, ◌<◌, lit≤, List, length, take, ap, sym, ◌∙◌, arith, ⊎_elim}
+use Rattle.std.specs.Prelude.{Ok, slice_index_or, unwrap_or}
 use Rattle.std.proofs.lemmas.Bool.{cases_lt}
-use Rattle.std.proofs.lemmas.List.{take_all}
+use Rattle.std.proofs.lemmas.List.{take_all, take-take}
 use Rattle.text_lines.specs.Lines.{read_within}
 use Rattle.text_lines.proofs.LongTexts.{long_text, within_limit}
 use Rattle.step_tables.specs.declared.tables.Script.{Script}
+use Rattle.step_tables.specs.Limits.{newest, limits_of}
+use Rattle.step_tables.specs.Words.{pieces}
 use Rattle.step_tables.specs.Text.{script_text}
-use Rattle.step_tables.specs.Judging.{scripts, nothing, script_read, script_within, script_of, byte_limit}
+use Rattle.step_tables.specs.Judging.{scripts, nothing, script_read, script_within, script_of, version_of, version_in, most_bytes, byte_limit}
+use Rattle.step_tables.proofs.Bounds.{bytes_most}
 use Rattle.step_tables.proofs.Walk.{read_back_from}
 use Rattle.step_tables.proofs.ReadBack.{within_back}
 
--- the script of a text is that of the whole text
-pub whole_text : (bytes : List ℕ) → script_of bytes ≡ script_within byte_limit bytes
-unfolding script_of
-whole_text bytes = ⊎_elim long short (cases_lt byte_limit (length bytes))
+-- what stands behind the byte past a limit counts for nothing
+cut_within : (limit : ℕ) (bytes : List ℕ) → script_within limit (take (limit + 1) bytes) ≡ script_within limit bytes
+cut_within limit bytes = ⊎_elim long short (cases_lt limit (length bytes))
   where
-    long : byte_limit < length bytes → script_within byte_limit (take (byte_limit + 1) bytes) ≡ script_within byte_limit bytes
-    long past = sym (ap script_read (long_text scripts nothing byte_limit bytes past))
+    long : limit < length bytes → script_within limit (take (limit + 1) bytes) ≡ script_within limit bytes
+    long past = let next : limit + 1 ≡ suc limit = omega arith in ap (λ k. script_within limit (take k bytes)) next ∙ sym (ap script_read (long_text scripts nothing limit bytes past))
 
-    short : length bytes ≤ byte_limit → script_within byte_limit (take (byte_limit + 1) bytes) ≡ script_within byte_limit bytes
-    short few = ap (script_within byte_limit) (take_all (byte_limit + 1) bytes (omega arith))
+    short : length bytes ≤ limit → script_within limit (take (limit + 1) bytes) ≡ script_within limit bytes
+    short few = ap (script_within limit) (take_all (limit + 1) bytes (omega arith))
 
-pub read_length : (bytes : List ℕ) (s : Script) → script_of bytes ≡ Ok s → length bytes ≤ byte_limit
+-- the script of a text is that of the whole text
+pub whole_text : (bytes : List ℕ) → script_of bytes ≡ script_within (most_bytes bytes) bytes
+unfolding script_of
+whole_text bytes = cut_within (most_bytes bytes) bytes
+
+pub read_length : (bytes : List ℕ) (s : Script) → script_of bytes ≡ Ok s → length bytes ≤ most_bytes bytes
 read_length bytes s e =
-    let (q, is, same) = read_back_from (read_within scripts nothing byte_limit bytes) s (sym (whole_text bytes) ∙ e) in
-    within_limit scripts nothing q byte_limit bytes is
+    let (q, is, same) = read_back_from (read_within scripts nothing (most_bytes bytes) bytes) s (sym (whole_text bytes) ∙ e) in
+    within_limit scripts nothing q (most_bytes bytes) bytes is
 
 -- a text that is read is the text of its script, and within the limit
-pub read_back : (bytes : List ℕ) (s : Script) → script_of bytes ≡ Ok s → (bytes ≡ script_text s) × (length bytes ≤ byte_limit)
-read_back bytes s e = (within_back byte_limit bytes s (sym (whole_text bytes) ∙ e), read_length bytes s e)
+pub read_back : (bytes : List ℕ) (s : Script) → script_of bytes ≡ Ok s → (bytes ≡ script_text s) × (length bytes ≤ most_bytes bytes)
+read_back bytes s e = (within_back (most_bytes bytes) bytes s (sym (whole_text bytes) ∙ e), read_length bytes s e)
 
 -- no byte further behind the limit counts
 pub read_cut : (bytes : List ℕ) → script_of (take (byte_limit + 1) bytes) ≡ script_of bytes
-unfolding script_of
-read_cut bytes = whole_text (take (byte_limit + 1) bytes)
+unfolding version_in
+read_cut bytes =
+    let top = most_bytes bytes in
+    let front = take (byte_limit + 1) bytes in
+    let same : most_bytes front ≡ top = ap (λ b. (limits_of (unwrap_or (version_of (slice_index_or (pieces 10 b) 0 [])) newest)).bytes) (take-take 13 (byte_limit + 1) bytes (lit≤ tt)) in
+    whole_text front ∙ ap (λ m. script_within m front) same ∙ sym (cut_within top front)
+    ∙ ap (script_within top) (take-take (top + 1) (byte_limit + 1) bytes (bytes_most (version_in bytes))) ∙ cut_within top bytes ∙ sym (whole_text bytes)

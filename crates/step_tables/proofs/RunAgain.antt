@@ -139,7 +139,7 @@ setting_step n setting v p lines later at unended range some =
     ∙ ap (λ m. judged None (n + 1) (with_setting p setting m) lines) (value_again v small)
 
 -- the first line
-header_again : (version : ℕ) → within 1 newest version ≡ true → version_of (header_of version) ≡ Some version
+pub header_again : (version : ℕ) → within 1 newest version ≡ true → version_of (header_of version) ≡ Some version
 unfolding header_of version_of
 header_again version e =
     elim (cases_Bool (version == 2)) [

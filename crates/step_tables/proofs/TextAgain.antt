@@ -1,11 +1,10 @@
 -- The text of a script in range is read as that script.
 use Rattle.std.proofs.Common.{◌≡◌, ℕ, suc, ◌+◌, ◌^◌, ◌≤◌, ◌<◌, true, false, List, [], ◌∷◌, ◌++◌, map, length, refl, ap, sym, ◌∙◌, arith, subst, append_assoc, append-nil, length-append, lit<, inl, inr}
-use Rattle.std.specs.Prelude.{None, Ok, not, ◌==◌, nat_lt, nat_le, decimal, flat_map}
+use Rattle.std.specs.Prelude.{unwrap_or, None, Ok, not, ◌==◌, nat_lt, nat_le, decimal, flat_map}
 use Rattle.std.specs.List.{list_all}
 use Rattle.std.proofs.lemmas.Bool.{cases_Bool}
 use Rattle.std.proofs.lemmas.Bool.Decides.{nat_tests}
 use Rattle.std.proofs.lemmas.List.Folds.{list_all-append}
-use Rattle.std.proofs.lemmas.List.{take_all}
 use Rattle.step_tables.specs.declared.faults.FaultKind.TheVariants as kinds
 use Rattle.step_tables.specs.declared.tables.TaskDef.{TaskDef}
 use Rattle.step_tables.specs.declared.tables.Event.{Event}
@@ -17,17 +16,18 @@ use Rattle.step_tables.specs.Words.{pieces, is_empty, is_name}
 use Rattle.step_tables.specs.Shapes.{Said, sets, ends}
 use Rattle.step_tables.specs.Text.{header_of, said_words, task_said, rows_said, event_said, names_of, settings_said, body_said, lines_text, script_text}
 use Rattle.step_tables.specs.Sound.{is_sound_action, is_sound_task, rising_below, is_sound}
-use Rattle.step_tables.specs.Limits.{limits_of}
+use Rattle.step_tables.specs.Limits.{newest, limits_of}
 use Rattle.text_lines.proofs.LimitLaws.{short_text}
-use Rattle.step_tables.specs.Judging.{value, least, most, outside, event_of, with_event, with_line, with_setting, nothing, script_from, setting_at, script_within, script_of, byte_limit, scripts, script_read}
+use Rattle.step_tables.specs.Judging.{value, least, most, outside, event_of, with_event, with_line, with_setting, nothing, script_from, setting_at, script_within, script_of, version_of, version_in, first_line, scripts, script_read}
 use Rattle.step_tables.proofs.Steps.{judged}
 use Rattle.step_tables.proofs.RowsOf.{both, first_of_both, second_of_both}
 use Rattle.step_tables.proofs.Valid.{last_from, last_is}
 use Rattle.step_tables.proofs.WordsAgain.{are_words, number_is_word, is_number, value_again, first_piece}
 use Rattle.step_tables.proofs.Bounds.{InRange, in_range, inside_small, within_outside, start_inside, workers_small, rounds_small}
-use Rattle.step_tables.proofs.RunAgain.{bytes_of, Passes, Runs, runs_to, runs_then, no_kind, both_false, run_lines, lines_some, setting_step, header_step, cut_lines, setting_words}
+use Rattle.step_tables.proofs.RunAgain.{bytes_of, Passes, Runs, runs_to, runs_then, no_kind, both_false, run_lines, lines_some, setting_step, header_again, header_step, cut_lines, setting_words}
 use Rattle.step_tables.proofs.TasksAgain.{base, lens, after_tasks, tasks_run}
 use Rattle.step_tables.proofs.RowsAgain.{order_fine, order_known, order_are_words, action_again}
+use Rattle.step_tables.proofs.Length.{whole_text}
 use Rattle.step_tables.proofs.RowsRun.{Fine, between, rows_run}
 
 -- all tasks are read, and these events
@@ -195,10 +195,19 @@ judged_again s r =
     ∙ settings_again s (map bytes_of (body_said s.tasks s.events) ++ [] ∷ []) r (lines_some (body_said s.tasks s.events))
     ∙ run_lines 7 (base s [] [] 0 []) (record (with_events s s.events) { ended = true }) (body_said s.tasks s.events) (lit< tt) (body_run s r) refl
 
+-- the text says the script's version in its first line
+first_again : (version : ℕ) (rest : List ℕ) → first_line (header_of version ++ 10 ∷ rest) ≡ header_of version
+unfolding header_of
+first_again version rest = elim (cases_Bool (version == 2)) [ inl k ↦ rw k refl | inr k ↦ rw k refl ]
+
+version_again : (s : Script) → InRange s → version_in (script_text s) ≡ s.version
+unfolding version_in script_text
+version_again s r = ap (λ o. unwrap_or o newest) (ap version_of (first_again s.version _) ∙ header_again s.version r.settings.version)
+
 -- the text of a script in range is read as that script
-pub text_again : (s : Script) → is_sound s ≡ true → length (script_text s) ≤ byte_limit → script_of (script_text s) ≡ Ok s
-unfolding script_of
+pub text_again : (s : Script) → is_sound s ≡ true → length (script_text s) ≤ (limits_of s.version).bytes → script_of (script_text s) ≡ Ok s
 text_again s e short =
-    ap (λ bytes. script_within byte_limit bytes) (take_all (byte_limit + 1) (script_text s) (omega arith))
-    ∙ ap script_read (short_text scripts nothing byte_limit (script_text s) short)
+    let text = script_text s in
+    whole_text text ∙ ap (λ v. script_within (limits_of v).bytes text) (version_again s (in_range s e))
+    ∙ ap script_read (short_text scripts nothing (limits_of s.version).bytes text short)
     ∙ judged_again s (in_range s e)

@@ -1,5 +1,5 @@
 -- What the lines of a script make, which fault a line has, and the script of a text: docs/SCRIPT.md, "Order" and "Faults".
-use Rattle.std.specs.Prelude.{ℕ, ◌+◌, ◌-◌, ℤ, pos, negsuc, int_lt, Bool, true, false, not, ◌&&◌, ◌||◌, List, [], ◌∷◌, ◌++◌, map, length, take, Option, Some, None, Result, Ok, Err, option_map, is_none, unwrap_or, ◌==◌, nat_lt, nat_le, bytes_eq, position, slice_get, slice_index, slice_set, if◌then◌else◌}
+use Rattle.std.specs.Prelude.{ℕ, ◌+◌, ◌-◌, ℤ, pos, negsuc, int_lt, Bool, true, false, not, ◌&&◌, ◌||◌, List, [], ◌∷◌, ◌++◌, map, length, take, Option, Some, None, Result, Ok, Err, option_map, is_none, unwrap_or, ◌==◌, nat_lt, nat_le, bytes_eq, position, slice_get, slice_index, slice_index_or, slice_set, if◌then◌else◌}
 use Rattle.std.specs.List.{list_any}
 use Rattle.step_tables.specs.declared.tables.Action.{Action}
 use Rattle.step_tables.specs.declared.tables.Action.TheVariants.{Wake, Kill}
@@ -21,7 +21,7 @@ use Rattle.step_tables.specs.declared.faults.FaultKind.TheVariants as kinds
 use Rattle.text_lines.specs.Lines.{Format, read_within}
 use Rattle.step_tables.specs.Faults.{number_of_kind}
 use Rattle.step_tables.specs.Limits.{newest, limits_of, most_rows, most_actions, most_delay}
-use Rattle.step_tables.specs.Words.{Word, ◌>>=◌, ◌is◌, is_empty, words_of, number_of, signed_of, reasons_of}
+use Rattle.step_tables.specs.Words.{Word, ◌>>=◌, ◌is◌, pieces, is_empty, words_of, number_of, signed_of, reasons_of}
 use Rattle.step_tables.specs.Shapes as shapes
 use Rattle.step_tables.specs.Shapes.{Order, Delay, Place, TaskLine, RowLine, EventLine, Said, setting_line, body_line}
 
@@ -336,10 +336,22 @@ script_read (Err f) = Err (fault f)
 abbrev pub script_within : ℕ → List ℕ → Result Script ScriptFault
 script_within limit bytes = script_read (read_within scripts nothing limit bytes)
 
--- the most bytes that a script may have
+-- the first line of a text, of which no more than 13 bytes count
+abbrev pub first_line : List ℕ → List ℕ
+first_line bytes = slice_index_or (pieces 10 (take 13 bytes)) 0 []
+
+-- the version that a text says in its first line, or the newest where it says none
+unfoldable pub version_in : List ℕ → ℕ
+version_in bytes = unwrap_or (version_of (first_line bytes)) newest
+
+-- the most bytes that a text of this version may have
+abbrev pub most_bytes : List ℕ → ℕ
+most_bytes bytes = (limits_of (version_in bytes)).bytes
+
+-- the most bytes that any script may have
 abbrev pub byte_limit : ℕ
 byte_limit = (limits_of newest).bytes
 
--- the script of a text, or the line and the kind of its first fault; no byte further behind the limit counts
+-- the script of a text, or the line and the kind of its first fault; no byte further behind the limit of its version counts
 unfoldable pub script_of : List ℕ → Result Script ScriptFault
-script_of bytes = script_within byte_limit (take (byte_limit + 1) bytes)
+script_of bytes = script_within (most_bytes bytes) (take (most_bytes bytes + 1) bytes)

@@ -5,7 +5,7 @@ ghost use Rattle.step_tables.specs.declared.faults.ScriptError.TheVariants.{Refu
 ghost use Rattle.text_lines.specs.Lines.{line_taken, closed};
 ghost use Rattle.step_tables.specs.Words.{words_of};
 ghost use Rattle.step_tables.specs.Shapes.{setting_line, body_line};
-ghost use Rattle.step_tables.specs.Judging.{judge_said, setting_at, said_in, said_of, judge, judge_header, version_of, scripts, fault, script_read, script_within, script_of};
+ghost use Rattle.step_tables.specs.Judging.{judge_said, setting_at, said_in, said_of, judge, judge_header, version_of, version_in, scripts, fault, script_read, script_within, script_of};
 ghost use Rattle.step_tables.specs.Sound.{is_sound};
 ghost use Rattle.step_tables.specs.Views.{said_view, Judges, Takes, Gives, words_in};
 
@@ -17,6 +17,28 @@ use crate::tables::Script;
 use crate::words::words_of;
 use std::alloc::{AllocError, Global};
 use text_lines::{Words, is_line, line_over, next_line};
+
+/// The version that a first line says.
+#[tactic(auto, unfolding(crate::specs::Judging::version_of))]
+fn version_of(line: &[u8]) -> Option<u32>
+    ensures { result ≡ version_of line.now }
+{
+    if line == b"taskscript 1".as_slice() {
+        Some(1)
+    } else if line == b"taskscript 2".as_slice() {
+        Some(2)
+    } else {
+        None
+    }
+}
+
+/// The version that a text says in its first line, or the newest where it says none.
+fn version_in(bytes: &[u8]) -> u32
+    ensures { result ≡ version_in bytes.now }
+{
+    let (line, _) = next_line(&bytes[..bytes.len().min(13)]);
+    version_of(line).unwrap_or(NEWEST)
+}
 
 /// The setting whose line this is.
 #[tactic(auto, unfolding(crate::specs::Judging::setting_at))]
@@ -77,18 +99,17 @@ impl Progress {
     }
 
     /// Judges the first line, and keeps its version.
-    #[tactic(auto, unfolding(crate::specs::Judging::judge_header, crate::specs::Judging::version_of))]
+    #[tactic(auto, unfolding(crate::specs::Judging::judge_header))]
     fn take_header(&mut self, line: &[u8]) -> Result<(), Refusal>
         ensures { Judges result self.new (judge_header self.old (version_of line.now)) }
     {
-        self.version = if line == b"taskscript 1".as_slice() {
-            1
-        } else if line == b"taskscript 2".as_slice() {
-            2
-        } else {
-            return Err(Refusal::Kind(FaultKind::Header));
-        };
-        Ok(())
+        match version_of(line) {
+            None => Err(Refusal::Kind(FaultKind::Header)),
+            Some(version) => {
+                self.version = version;
+                Ok(())
+            }
+        }
     }
 
     /// Judges a complete line, and adds it where it has no fault.
@@ -200,7 +221,7 @@ impl Script {
         ensures same { Gives result (script_of bytes.now) }
         ensures sound { IfOk result (λ s. IsTrue (is_sound s)) }
     {
-        let most = Limits::of(NEWEST).bytes;
+        let most = Limits::of(version_in(bytes)).bytes;
         let end = bytes.len().min(most + 1);
         script_within(alloc, most, &bytes[..end])
     }
