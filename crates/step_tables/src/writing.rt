@@ -1,45 +1,21 @@
 //! Writing a script's text.
 
 ghost use Rattle.std.specs.Prelude.{◌≡◌, ℕ, ◌++◌, ◌∷◌, [], map, flat_map, length, codes, decimal, OnOk, OnErr, if◌then◌else◌};
-ghost use Rattle.std.specs.Fmt.{signed_decimal};
-ghost use Rattle.step_tables.specs.Text.{class_name, order_words, delay_words, init_words, place_words, task_word, said_words, reasons_text, name_at, order_said, delay_said, place_said, task_said, row_said, rows_said, event_said, names_of, settings_said, body_said, spaced, line_text, lines_text, script_text, header_of};
+ghost use Rattle.step_tables.specs.Text.{class_name, order_words, delay_words, init_words, place_words, task_word, said_words, name_at, order_said, delay_said, place_said, task_said, row_said, rows_said, event_said, names_of, settings_said, body_said, spaced, line_text, lines_text, script_text, header_of};
 ghost use Rattle.step_tables.specs.Shapes.{setting_name, sets};
 
 use crate::shapes::{Setting, setting_name};
 use crate::tables::{Action, Event, Expiry, Kind, Row, Script, TaskDef};
-use itoa::Buffer;
-use sched_base::{Class, Reasons, TaskId};
+use sched_base::{Class, TaskId};
 use std::alloc::AllocError;
-
-/// Appends bytes.
-fn put(out: &mut Vec<u8>, bytes: &[u8]) -> Result<(), AllocError>
-    ensures { OnOk result (out.new.items ≡ out.old.items ++ bytes.now) }
-{
-    out.extend_from_slice(bytes)
-}
-
-/// Appends a space and a word.
-fn put_word(out: &mut Vec<u8>, word: &[u8]) -> Result<(), AllocError>
-    ensures { OnOk result (out.new.items ≡ out.old.items ++ 32 ∷ word.now) }
-{
-    put(out, b" ")?;
-    put(out, word)
-}
+use text_lines::{put_bytes, put_reasons, put_signed, put_word};
 
 /// Appends a space and a number.
 fn put_number(out: &mut Vec<u8>, number: u64) -> Result<(), AllocError>
     ensures { OnOk result (out.new.items ≡ out.old.items ++ 32 ∷ decimal number) }
 {
-    let mut buffer = Buffer::new();
-    put_word(out, buffer.format(number).as_bytes())
-}
-
-/// Appends a space and a signed number.
-fn put_signed(out: &mut Vec<u8>, number: i32) -> Result<(), AllocError>
-    ensures { OnOk result (out.new.items ≡ out.old.items ++ 32 ∷ signed_decimal number) }
-{
-    let mut buffer = Buffer::new();
-    put_word(out, buffer.format(number).as_bytes())
+    put_bytes(out, b" ")?;
+    text_lines::put_number(out, number)
 }
 
 /// The name of a class.
@@ -64,11 +40,13 @@ fn put_place(out: &mut Vec<u8>, kind: Kind) -> Result<(), AllocError>
             put_word(out, b"home")?;
             put_number(out, home as u64)?;
             put_word(out, b"nice")?;
+            put_bytes(out, b" ")?;
             put_signed(out, nice)
         }
         Kind::Shared { nice } => {
             put_word(out, b"shared")?;
             put_word(out, b"nice")?;
+            put_bytes(out, b" ")?;
             put_signed(out, nice)
         }
         Kind::Tasklet { home, class } => {
@@ -95,14 +73,6 @@ fn put_expiry(out: &mut Vec<u8>, expiry: Expiry) -> Result<(), AllocError>
     }
 }
 
-/// Appends a space and a reason list.
-fn put_reasons(out: &mut Vec<u8>, reasons: Reasons) -> Result<(), AllocError>
-    ensures { OnOk result (out.new.items ≡ out.old.items ++ 32 ∷ reasons_text reasons) }
-{
-    put(out, b" ")?;
-    text_lines::put_reasons(out, reasons)
-}
-
 /// The name of a task, or no byte where there is no such task.
 #[tactic(auto, using(crate::proofs::NameAt::name_there, crate::proofs::NameAt::name_missing))]
 fn name_at(tasks: &[TaskDef], id: TaskId) -> &[u8]
@@ -123,6 +93,7 @@ fn put_action(out: &mut Vec<u8>, tasks: &[TaskDef], action: Action) -> Result<()
         Action::Wake(id, reasons) => {
             put_word(out, b"wake")?;
             put_word(out, name_at(tasks, id))?;
+            put_bytes(out, b" ")?;
             put_reasons(out, reasons)
         }
         Action::Kill(id) => {
@@ -163,7 +134,7 @@ fn put_task_end(out: &mut Vec<u8>, task: &TaskDef) -> Result<(), AllocError>
     if task.init {
         put_word(out, b"init")?;
     }
-    put(out, b"\n")
+    put_bytes(out, b"\n")
 }
 
 /// Appends a task's line.
@@ -171,7 +142,7 @@ fn put_task_end(out: &mut Vec<u8>, task: &TaskDef) -> Result<(), AllocError>
 fn put_task(out: &mut Vec<u8>, task: &TaskDef) -> Result<(), AllocError>
     ensures { OnOk result (out.new.items ≡ out.old.items ++ line_text (said_words (task_said task.now (length task.now.rows)))) }
 {
-    put(out, first_word(task.kind))?;
+    put_bytes(out, first_word(task.kind))?;
     put_word(out, task.name.as_slice())?;
     put_place(out, task.kind)?;
     put_task_end(out, task)
@@ -188,14 +159,14 @@ fn put_row(
 ) -> Result<(), AllocError>
     ensures { OnOk result (out.new.items ≡ out.old.items ++ line_text (said_words (row_said (names_of tasks.now) name.now number row.now))) }
 {
-    put(out, b"row")?;
+    put_bytes(out, b"row")?;
     put_word(out, name)?;
     put_number(out, number as u64)?;
     put_actions(out, tasks, row.actions.as_slice())?;
     put_expiry(out, row.expiry)?;
     put_word(out, b"next")?;
     put_number(out, row.next as u64)?;
-    put(out, b"\n")
+    put_bytes(out, b"\n")
 }
 
 /// Appends the lines of a task's rows.
@@ -214,19 +185,19 @@ fn put_rows(out: &mut Vec<u8>, tasks: &[TaskDef], task: &TaskDef) -> Result<(), 
 fn put_event(out: &mut Vec<u8>, tasks: &[TaskDef], event: &Event) -> Result<(), AllocError>
     ensures { OnOk result (out.new.items ≡ out.old.items ++ line_text (said_words (event_said (names_of tasks.now) event.now))) }
 {
-    put(out, b"event")?;
+    put_bytes(out, b"event")?;
     put_number(out, event.round as u64)?;
     put_action(out, tasks, event.action)?;
-    put(out, b"\n")
+    put_bytes(out, b"\n")
 }
 
 /// Appends a setting's line.
 fn put_setting(out: &mut Vec<u8>, setting: Setting, value: u32) -> Result<(), AllocError>
     ensures { OnOk result (out.new.items ≡ out.old.items ++ line_text (said_words (sets setting (decimal value)))) }
 {
-    put(out, setting_name(setting))?;
+    put_bytes(out, setting_name(setting))?;
     put_number(out, value as u64)?;
-    put(out, b"\n")
+    put_bytes(out, b"\n")
 }
 
 /// Appends the lines of tasks.
@@ -268,9 +239,9 @@ fn put_header(out: &mut Vec<u8>, script: &Script) -> Result<(), AllocError>
     ensures { OnOk result (out.new.items ≡ out.old.items ++ (header_of script.now.version ++ 10 ∷ [])) }
 {
     if script.version() == 2 {
-        put(out, b"taskscript 2\n")
+        put_bytes(out, b"taskscript 2\n")
     } else {
-        put(out, b"taskscript 1\n")
+        put_bytes(out, b"taskscript 1\n")
     }
 }
 
@@ -295,7 +266,7 @@ fn put_script(out: &mut Vec<u8>, script: &Script) -> Result<(), AllocError>
     put_tasks(out, tasks)?;
     put_all_rows(out, tasks)?;
     put_events(out, tasks, script.events())?;
-    put(out, b"end\n")
+    put_bytes(out, b"end\n")
 }
 
 impl Script {
