@@ -3,5 +3,7 @@ pub mod Crowding
 pub mod Deals
 pub mod Firsts
 pub mod Gathers
+pub mod Laying
 pub mod Looks
 pub mod Moved
+pub mod Ranked

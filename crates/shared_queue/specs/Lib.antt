@@ -3,3 +3,5 @@ pub mod Dealing
 pub mod Drawing
 pub mod Looking
 pub mod Crowds
+pub mod Spans
+pub mod Rankings

@@ -1,5 +1,5 @@
 -- What was seen of the shared box, and the first of the tasks that were seen there (docs/SHARED.md, "Draws").
-use Rattle.std.specs.Prelude.{◌≡◌, ℕ, ◌/◌, ◌%◌, ◌<◌, ◌⊎◌, ℤ, List, length, slice_index, Option, None, Some}
+use Rattle.std.specs.Prelude.{◌≡◌, ℕ, ◌/◌, ◌%◌, ◌<◌, ℤ, List, length, slice_index}
 use Rattle.std.specs.Int.{bit_at}
 use Rattle.wake_board.specs.Seen.{Held, with_misses}
 use Rattle.shared_queue.specs.Drawing.{IsAmong, ComesBefore, WereAbsent}
@@ -16,11 +16,6 @@ pub record Looked (n g : ℕ) (words : List ℕ) (old new : Held) : Type 0 where
   pub clear : (i : ℕ) → i < n → i / 64 < g → seen_bit words i ≡ 0 → IsAmong tasks i
   pub only : (i : ℕ) → IsAmong tasks i → (i < n) × (i / 64 < g) × (seen_bit words i ≡ 0)
 
--- a task was found, and task j does not come before it
-abbrev pub IsNoEarlier : List ℤ → Option ℕ → ℕ → Type 0
-IsNoEarlier ranks None j = ⊥
-IsNoEarlier ranks (Some r) j = ComesBefore ranks j r → ⊥
-
 -- task r is set in the words, and no task comes before it that is set too
 pub record IsFirst (ranks : List ℤ) (words : List ℕ) (r : ℕ) : Type 0 where
   pub exists : r < length ranks
@@ -30,13 +25,3 @@ pub record IsFirst (ranks : List ℤ) (words : List ℕ) (r : ℕ) : Type 0 wher
 -- no task is set in the words
 abbrev pub NoneSet : List ℤ → List ℕ → Type 0
 NoneSet ranks words = (j : ℕ) → j < length ranks → seen_bit words j ≡ 1 → ⊥
-
--- a task of a group that is set in its word
-pub record IsIn (n g word r : ℕ) : Type 0 where
-  pub exists : r < n
-  pub group : r / 64 ≡ g
-  pub set : bit_at word (r % 64) ≡ 1
-
--- the task that was found is the one from before, or in a group's word
-abbrev pub IsFoundIn : ℕ → ℕ → ℕ → Option ℕ → Option ℕ → Type 0
-IsFoundIn n g word before found = (found ≡ before) ⊎ ((r : ℕ) × (found ≡ Some r) × IsIn n g word r)

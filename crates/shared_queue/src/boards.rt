@@ -2,6 +2,7 @@
 
 ghost use Rattle.std.specs.Prelude.{◌≡◌, ◌≤◌, length, IfOk};
 ghost use Rattle.shared_queue.specs.Crowds.{IsCrowd};
+ghost use Rattle.shared_queue.specs.Dealing.{AreNices};
 
 use crate::SharedQueue;
 use sched_base::{PlainLists, TaskId};
@@ -39,4 +40,23 @@ pub(crate) fn queue(alloc: Global, tasks: u32) -> Result<SharedQueue<PlainLists>
 {
     let lists = PlainLists::new(alloc, 1, 2 * tasks)?;
     SharedQueue::new(alloc, lists, 200, tasks)
+}
+
+/// The nices of so many tasks: for some of them these, where the task exists and the nice is in range, and 0 for all others.
+pub(crate) fn nices(
+    alloc: Global,
+    tasks: u32,
+    some: &[u32],
+    theirs: &[i32],
+) -> Result<Vec<i32>, AllocError>
+    ensures sized { IfOk result (λ nices. length nices.items ≡ tasks) }
+    ensures nices { IfOk result (λ nices. AreNices nices.items) }
+{
+    let mut nices = vec![in alloc; 0i32; tasks as usize]?;
+    for (task, nice) in some.iter().zip(theirs.iter()) {
+        if *task < tasks && *nice >= -1024 && *nice <= 1024 {
+            nices[*task as usize] = *nice;
+        }
+    }
+    Ok(nices)
 }

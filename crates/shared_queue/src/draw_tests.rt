@@ -4,8 +4,9 @@ ghost use Rattle.std.specs.Prelude.{◌≡◌, ◌≤◌, length};
 ghost use Rattle.wake_board.specs.Seen.{IsPassOf};
 
 use crate::SharedQueue;
-use crate::boards::{crowd, queue};
+use crate::boards::{crowd, nices, queue};
 use sched_base::{CallerId, PlainLists};
+use std::alloc::{AllocError, Global};
 use std::test::Fail;
 use std::thread::{Threads, join_mut};
 use wake_board::{Board, Pass};
@@ -38,6 +39,53 @@ fn draws_go_by_nice_then_number(rt: HostRuntime) -> Result<(), Fail> {
     };
     let plain = queue(alloc, 4096)?;
     assert!(rt; four(&plain, &board, &mut pass) == [Some(3), Some(4090), None, None]);
+    Ok(())
+}
+
+/// Ten draws from so many tasks, of which these, in ascending number, are in the shared box and have these nices.
+fn ten(
+    alloc: Global,
+    tasks: u32,
+    boxed: &[u32],
+    theirs: &[i32],
+) -> Result<[Option<u32>; 10], AllocError>
+    requires { tasks ≤ 65536 }
+{
+    let mut drawn = [None; 10];
+    let (board, mut passes) = crowd(alloc, tasks, boxed)?;
+    let mut ranked = queue(alloc, tasks)?;
+    let nices = nices(alloc, tasks, boxed, theirs)?;
+    ranked.rank(&nices);
+    if let Some(mut pass) = passes.take(CallerId(0)) {
+        'draws: for slot in drawn.iter_mut() {
+            *slot = ranked.draw_for(&board, &mut pass).map(|id| id.0);
+        }
+    }
+    Ok(drawn)
+}
+
+#[test]
+fn draws_go_by_nice_over_many_groups(rt: HostRuntime) -> Result<(), Fail> {
+    for (tasks, boxed, theirs, expected) in [
+        (
+            200,
+            [1, 5, 63, 64, 65, 127, 128, 140, 199],
+            [3, -2, 0, -2, 3, -7, 0, -2, 3],
+            [127, 5, 64, 140, 63, 128, 1, 65, 199],
+        ),
+        (
+            5000,
+            [0, 63, 64, 1000, 2047, 4096, 4097, 4990, 4999],
+            [1024, 1, -1, 1, -1, -1, -1, 0, -1024],
+            [4999, 64, 2047, 4096, 4097, 4990, 63, 1000, 0],
+        ),
+    ] {
+        let drawn = ten(rt.alloc(), tasks, &boxed, &theirs)?;
+        for (draw, task) in drawn.iter().zip(expected.iter()) {
+            assert!(rt; *draw == Some(*task));
+        }
+        assert!(rt; drawn[9].is_none());
+    }
     Ok(())
 }
 

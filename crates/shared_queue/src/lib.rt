@@ -8,7 +8,9 @@ mod dealing;
 #[cfg(test)]
 mod draw_tests;
 mod drawing;
+mod ranking;
 mod shared_queue;
+mod spans;
 #[cfg(test)]
 mod tests;
 

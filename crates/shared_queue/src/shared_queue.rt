@@ -7,6 +7,7 @@ ghost use Rattle.sched_base.specs.KeyedList.{root_at};
 ghost use Rattle.shared_queue.specs.Sharing.{Sharing, shared_list};
 ghost use Rattle.shared_queue.specs.Dealing.{AreNices};
 
+use crate::ranking::Ranking;
 use run_queue::RunQueue;
 use sched_base::KeyedLists;
 use std::alloc::{AllocError, Global};
@@ -21,7 +22,7 @@ const ROOT: u32 = 0;
 pub struct SharedQueue<K: KeyedLists> {
     pub(crate) lists: K,
     pub(crate) queue: RunQueue,
-    pub(crate) ranks: Vec<i32>,
+    pub(crate) ranks: Ranking,
 }
 
 impl<K: KeyedLists> Model for SharedQueue<K> {
@@ -29,9 +30,9 @@ impl<K: KeyedLists> Model for SharedQueue<K> {
 
     ghost Value = { Sharing };
 
-    ghost view = { λ q. record { lists = K.seen q.lists; queue = q.queue; ranks = q.ranks.items } };
+    ghost view = { λ q. record { lists = K.seen q.lists; queue = q.queue; ranks = q.ranks } };
 
-    ghost invariant = { λ q. IsSharing (record { lists = K.seen q.lists; queue = q.queue; ranks = q.ranks.items }) };
+    ghost invariant = { λ q. IsSharing (record { lists = K.seen q.lists; queue = q.queue; ranks = q.ranks }) };
 }
 
 impl<K: KeyedLists> SharedQueue<K> {
@@ -53,8 +54,7 @@ impl<K: KeyedLists> SharedQueue<K> {
         requires shallow { depth ≤ 1000 }
         ensures { IfOk result (λ q. q ≡ record { lists = K.seen lists; queue = record { root = 0; depth = depth; count = 0; waiting = 0 }; ranks = replicate tasks (pos 0) }) }
     {
-        let mut ranks = Vec::with_capacity(alloc, tasks as usize)?;
-        ranks.resize(tasks as usize, 0)?;
+        let ranks = Ranking::new(alloc, tasks)?;
         Ok(SharedQueue {
             lists,
             queue: RunQueue::new(ROOT, depth),
@@ -71,12 +71,13 @@ impl<K: KeyedLists> SharedQueue<K> {
         &self.lists
     }
 
-    /// Keeps one nice for each task, from -1,024 to 1,024, by which `draw_for` goes.
+    /// Keeps one nice for each task, from -1,024 to 1,024, by which `draw_for` goes. It takes no memory, and the time of a
+    /// sort of the tasks.
     pub fn rank(&mut self, nice: &[i32])
         requires tasks { length nice.now ≡ length self.old.ranks }
         requires nices { AreNices nice.now }
         ensures { self.new ≡ record self.old { ranks = nice.now } }
     {
-        self.ranks.copy_from_slice(nice);
+        self.ranks.keep(nice);
     }
 }

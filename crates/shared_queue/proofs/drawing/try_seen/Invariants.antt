@@ -8,7 +8,7 @@ use Rattle.shared_queue.proofs.drawing.try_seen.Given as goal
 abbrev pub invariant-tries : goal.invariant-tries
 invariant-tries l = record {
   board : IsPassOf l.board l.pass;
-  looked : (p : Held) → Looked (length l.ranks) (length l.initial.words) l.initial.words p l.initial.pass → Looked (length l.ranks) (length l.initial.words) l.words p l.pass;
+  looked : (p : Held) → Looked (length l.ranking) (length l.initial.words) l.initial.words p l.initial.pass → Looked (length l.ranking) (length l.initial.words) l.words p l.pass;
 }
 
 abbrev pub decreases-tries : goal.decreases-tries

@@ -13,7 +13,7 @@ deal-requires-clause-exists g c =
     let s : KeyedRoots = g.K.KeyedLists.seen c.self.inside.lists in
     let once = first_once q s c.in-Some.id.0 c.self.invariant.fits c.stay_keyed.ensures (sym c.in-Some.ensures.picked) in
     let below = once.0 in
-    let count : length c.self.inside.ranks.items ≡ length c.args.self.now.ranks = ap (λ (x : Sharing). length x.ranks) c.self.view_is in
+    let count : length c.self.inside.ranks ≡ length c.args.self.now.ranks = ap (λ (x : Sharing). length x.ranks) c.self.view_is in
     let entries = c.self.invariant.entries in
     omega arith
 
@@ -23,7 +23,7 @@ bounds-homes-id g c =
     let s : KeyedRoots = g.K.KeyedLists.seen c.self.inside.lists in
     let once = first_once q s c.in-Some.id.0 c.self.invariant.fits c.stay_keyed.ensures (sym c.in-Some.ensures.picked) in
     let below = once.0 in
-    let count : length c.self.inside.ranks.items ≡ length c.args.self.now.ranks = ap (λ (x : Sharing). length x.ranks) c.self.view_is in
+    let count : length c.self.inside.ranks ≡ length c.args.self.now.ranks = ap (λ (x : Sharing). length x.ranks) c.self.view_is in
     let entries = c.self.invariant.entries in
     omega arith
 
@@ -34,7 +34,7 @@ returns-clause-boxed g c =
     let i : ℕ = c.in-Some.id.0 in
     let once = first_once q s i c.self.invariant.fits c.stay_keyed.ensures (sym c.in-Some.ensures.picked) in
     let below = once.0 in
-    let count : length c.self.inside.ranks.items ≡ length c.args.self.now.ranks = ap (λ (x : Sharing). length x.ranks) c.self.view_is in
+    let count : length c.self.inside.ranks ≡ length c.args.self.now.ranks = ap (λ (x : Sharing). length x.ranks) c.self.view_is in
     let entries = c.self.invariant.entries in
     let all : (j : ℕ) → is_listed j (run_list q s) ≡ true → j < c.args.words.now.tasks = λ j h. (let l = listed_exists q s j c.self.invariant.fits h in omega arith) in
     let boxed : AreBoxed (run_list q s) c.args.words.now = subst (λ (x : Sharing). AreBoxed (shared_list x) c.args.words.now) (sym c.self.view_is) c.requires.boxed in
