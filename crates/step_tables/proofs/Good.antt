@@ -1,10 +1,9 @@
 -- What is known of a line without a fault.
 use Rattle.std.proofs.Common.{◌≡◌, ℕ, suc, zero, ◌≤◌, ◌<◌, Bool, true, false, cond, List, [], ◌∷◌, length, refl, sym, arith}
-use Rattle.std.specs.Prelude.{Option, Some, None, is_none, bytes_eq, not, ◌||◌, nat_lt, nat_le, slice_get}
+use Rattle.std.specs.Prelude.{Option, Some, None, is_none, bytes_eq, ◌||◌, nat_lt, nat_le, slice_get}
 use Rattle.std.specs.List.{list_any}
 use Rattle.std.proofs.lemmas.Option.{none-some}
-use Rattle.std.proofs.lemmas.Bool.{ltb-false, eqb-true}
-use Rattle.std.proofs.lemmas.Bool.Decides.{nat_tests}
+use Rattle.std.proofs.lemmas.Bool.{ltb-false, eqb-true, or_parts, not-false, leb-false}
 use Rattle.step_tables.specs.declared.tables.TaskDef.{TaskDef}
 use Rattle.step_tables.specs.declared.progress.Progress.{Progress}
 use Rattle.step_tables.specs.Limits.{limits_of, most_rows, most_actions}
@@ -16,22 +15,11 @@ pub passes : {K : Type 0} (b : Bool) (kind : K) (rest : Option K) → cond b (So
 passes true kind rest e = absurd (none-some kind (sym e))
 passes false kind rest e = (refl, e)
 
-pub neither : (a b : Bool) → (a || b) ≡ false → (a ≡ false) × (b ≡ false)
-neither true b e = absurd (cc)
-neither false b e = (refl, e)
-
-pub not_false : (b : Bool) → not b ≡ false → b ≡ true
-not_false true e = refl
-not_false false e = absurd (cc)
-
 -- an element that there is
 pub inside_get : {A : Type 0} (xs : List A) (i : ℕ) (x : A) → slice_get xs i ≡ Some x → i < length xs
 inside_get [] i x e = absurd (none-some x e)
 inside_get (y ∷ ys) zero x e = omega arith
 inside_get (y ∷ ys) (suc i) x e = let less = inside_get ys i x e in omega arith
-
-pub not_le : (a b : ℕ) → nat_le a b ≡ false → b < a
-not_le a b h = grind (arith, nat_tests)
 
 -- the row that must come next
 pub record Target (p : Progress) (line : RowLine) (task : TaskDef) : Type 0 where
@@ -43,9 +31,9 @@ pub record Target (p : Progress) (line : RowLine) (task : TaskDef) : Type 0 wher
 target : (p : Progress) (line : RowLine) (d : Option TaskDef) → due p ≡ d → wrong_target p d line ≡ false → (task : TaskDef) × Target p line task
 target p line None is_due e = absurd (cc)
 target p line (Some task) is_due e =
-    let (name, more) = neither _ _ e in
-    let (number, next) = neither _ _ more in
-    (task, record { is_due = is_due; name = not_false _ name; number = eqb-true _ _ (not_false _ number); next = not_le _ _ next })
+    let (name, more) = or_parts _ _ e in
+    let (number, next) = or_parts _ _ more in
+    (task, record { is_due = is_due; name = not-false _ name; number = eqb-true _ _ (not-false _ number); next = leb-false _ _ next })
 
 -- a good row
 pub record GoodRow (p : Progress) (line : RowLine) : Type 0 where
@@ -65,7 +53,7 @@ good_row p line e =
     let (expiry, e_5) = passes _ _ _ e_4 in
     let (ranges, e_6) = passes _ _ _ e_5 in
     let (task, is_target) = target p line (due p) refl row in
-    record { numbers = numbers; task = task; target = is_target; known = (neither _ _ names).1; expiry = expiry; few = (neither _ _ ranges).0; ticks = (neither _ _ ranges).1 }
+    record { numbers = numbers; task = task; target = is_target; known = (or_parts _ _ names).1; expiry = expiry; few = (or_parts _ _ ranges).0; ticks = (or_parts _ _ ranges).1 }
 
 -- a good event
 pub record GoodEvent (p : Progress) (line : EventLine) : Type 0 where
@@ -80,9 +68,9 @@ good_event p line e =
     let (numbers, e_2) = passes _ _ _ e in
     let (names, e_3) = passes _ _ _ e_2 in
     let (ranges, e_4) = passes _ _ _ e_3 in
-    let (round, more) = neither _ _ ranges in
-    let (few, rising) = neither _ _ more in
-    record { number = numbers; known = names; round = not_le _ _ round; few = few; rising = ltb-false _ _ rising }
+    let (round, more) = or_parts _ _ ranges in
+    let (few, rising) = or_parts _ _ more in
+    record { number = numbers; known = names; round = leb-false _ _ round; few = few; rising = ltb-false _ _ rising }
 
 -- a good task line
 pub record GoodTask (p : Progress) (line : TaskLine) : Type 0 where
@@ -97,9 +85,9 @@ good_task p line e =
     let (numbers, e_2) = passes _ _ _ e in
     let (names, e_3) = passes _ _ _ e_2 in
     let (ranges, e_4) = passes _ _ _ e_3 in
-    let (place, more) = neither _ _ ranges in
-    let (rows, few) = neither _ _ more in
-    record { numbers = numbers; new = not_false _ names; place = place; rows = rows; few = few }
+    let (place, more) = or_parts _ _ ranges in
+    let (rows, few) = or_parts _ _ more in
+    record { numbers = numbers; new = not-false _ names; place = place; rows = rows; few = few }
 
 -- the name of a good task line is that of no task
 pub good_name : (p : Progress) (line : TaskLine) → first_fault (task_tests p line) ≡ None → named p.tasks line.name ≡ None

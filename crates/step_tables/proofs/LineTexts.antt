@@ -1,7 +1,6 @@
 -- The text of a line, word by word.
 use Rattle.std.proofs.Common.{◌≡◌, ℕ, suc, zero, ◌+◌, List, [], ◌∷◌, ◌++◌, map, length, take, refl, ap, sym, ◌∙◌, arith, append_assoc, append-nil}
 use Rattle.std.specs.Prelude.{Some, codes, decimal, flat_map, slice_get}
-use Rattle.std.proofs.Math.Seq.{take-length}
 use Rattle.std.proofs.lemmas.Option.{none-some}
 use Rattle.std.specs.List.{join_with_byte}
 use Rattle.step_tables.specs.declared.tables.Action.{Action}
@@ -129,10 +128,6 @@ rows_put names name rs i r o m n at e f =
     let index : 0 + i ≡ i = omega arith in
     then_put o m n (lines_text (rows_said names name 0 (take i rs))) (line_text (said_words (row_said names name i r))) e f
     ∙ ap (λ x. o ++ x) (sym (rows_more names name 0 rs i r at ∙ ap (λ k. lines_text (rows_said names name 0 (take i rs)) ++ line_text (said_words (row_said names name k r))) index))
-
--- the end of the rows
-pub rows_whole : (names : List Word) (name : Word) (rs : List Row) → lines_text (rows_said names name 0 (take (length rs) rs)) ≡ lines_text (rows_said names name 0 rs)
-rows_whole names name rs = ap (λ xs. lines_text (rows_said names name 0 xs)) (take-length rs)
 
 pub rows_none : (names : List Word) (name : Word) (rs : List Row) → lines_text (rows_said names name 0 (take 0 rs)) ≡ []
 unfolding rows_said

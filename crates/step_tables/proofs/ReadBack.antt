@@ -1,8 +1,8 @@
 -- From a script that was read back to its text.
+use Rattle.std.proofs.lemmas.Bool.{not-true, eqb-true, eq-eqb, both_ways}
 use Rattle.std.proofs.Common.{◌≡◌, ℕ, ◌+◌, ◌<◌, Bool, true, false, List, [], ◌∷◌, ◌++◌, map, length, set, refl, ap, sym, ◌∙◌, arith, subst, append_assoc, append-nil, lit<}
-use Rattle.std.specs.Prelude.{Option, Some, None, Ok, ◌==◌, flat_map, decimal}
+use Rattle.std.specs.Prelude.{Option, Some, None, Ok, flat_map, decimal}
 use Rattle.std.specs.List.{join_with_byte}
-use Rattle.std.proofs.lemmas.Bool.Decides.{nat_tests}
 use Rattle.std.proofs.lemmas.List.{map-append}
 use Rattle.step_tables.specs.declared.tables.TaskDef.{TaskDef}
 use Rattle.step_tables.specs.declared.tables.Script.{Script}
@@ -18,7 +18,7 @@ use Rattle.step_tables.proofs.Back.{IsBody, AreOrders, IsOrder}
 use Rattle.step_tables.proofs.Good.{GoodRow, good_row, GoodEvent, good_event, GoodTask, good_task}
 use Rattle.step_tables.proofs.Steps.{Adds, header_is, judged}
 use Rattle.step_tables.proofs.RowsOf.{first_of_both, second_of_both, Fresh, Filled, fresh_from_filled}
-use Rattle.step_tables.proofs.Valid.{Valid, valid_step, map_set, empty_list, test_is, clash, not_true, task_rows, row_name}
+use Rattle.step_tables.proofs.Valid.{Valid, valid_step, map_set, empty_list, task_rows, row_name}
 use Rattle.step_tables.proofs.Walk.{IsClosed, nil_back, last_back, line_back, body_line_of}
 use Rattle.step_tables.proofs.WordsBack.{value_back, words_back, lines_back}
 use Rattle.step_tables.proofs.Head.{IsSetting, HeadOf, head_read, head_of, head_others, valid_head}
@@ -37,9 +37,9 @@ unfolding with_task
 said_task p line unended comes good v =
     let none_started = first_of_both _ _ comes in
     let no_event : p.events ≡ [] = empty_list p.events (second_of_both _ _ comes) in
-    let at_start : p.at ≡ 0 = test_is p.at 0 (first_of_both _ _ none_started) in
+    let at_start : p.at ≡ 0 = eqb-true p.at 0 (first_of_both _ _ none_started) in
     let fresh : Fresh p.workers p.tasks p.counts = fresh_from_filled p.workers (length p.tasks) p.tasks p.counts
-    (subst (λ k. Filled p.workers (length p.tasks) k p.tasks p.counts) at_start v.tables) (started at_start (test_is _ 0 (second_of_both _ _ none_started))) in
+    (subst (λ k. Filled p.workers (length p.tasks) k p.tasks p.counts) at_start v.tables) (started at_start (eqb-true _ 0 (second_of_both _ _ none_started))) in
     let before = only_tasks (tasks_so_far p.tasks p.counts) (rows_so_far (names_of p.tasks) p.tasks) (map (event_said (names_of p.tasks)) p.events) p.ended
     (no_rows_so_far p.workers (names_of p.tasks) p.tasks p.counts fresh) (ap (map (event_said (names_of p.tasks))) no_event) unended in
     let behind = only_tasks (tasks_so_far (p.tasks ++ task_of line ∷ []) (p.counts ++ value line.rows ∷ []))
@@ -67,12 +67,9 @@ said_row p line are unended comes good v = subst (λ d. so_far (with_row p d (ro
     ∙ sym (append_assoc (tasks_so_far p.tasks p.counts) (rows_so_far (names_of p.tasks) p.tasks) (row_said (names_of p.tasks) good.task.name (length good.task.rows) r ∷ []))
     ∙ (λ i. sym before i ++ row_line_back p line good are i ∷ []))
   where
-    is_test : (a b : ℕ) → a ≡ b → (a == b) ≡ true
-    is_test a b e = grind (arith, nat_tests)
-
     none : {A : Type 0} (xs : List A) → (is_empty xs ≡ false → p.at ≡ length p.tasks) → xs ≡ []
     none [] h = refl
-    none (x ∷ xs) h = absurd (clash (all_rows p) (is_test p.at (length p.tasks) (h refl)) (not_true (all_rows p) comes))
+    none (x ∷ xs) h = absurd (both_ways (all_rows p) (not-true (all_rows p) comes) (eq-eqb p.at (length p.tasks) (h refl)))
 
 said_event : (p : Progress) (line : EventLine) → IsOrder line.order → p.ended ≡ false → GoodEvent p line → so_far (with_event p line) ≡ so_far p ++ event line ∷ []
 unfolding with_event
@@ -185,7 +182,7 @@ setting_line_is v setting line word is = words_back line _ is.words ∙ ap (λ w
 
 -- there is a line behind the first six
 some_rest : (long : Option ℕ) (n : ℕ) (p : Progress) (lines : List (List ℕ)) (s : Script) → p.ended ≡ false → judged long n p lines ≡ Ok s → is_empty lines ≡ false
-some_rest long n p [] s unended e = absurd (clash p.ended (nil_back long n p s e).ended unended)
+some_rest long n p [] s unended e = absurd (both_ways p.ended unended (nil_back long n p s e).ended)
 some_rest long n p (line ∷ lines) s unended e = refl
 
 lines_left_of : (long : Option ℕ) (n : ℕ) (p : Progress) (lines : List (List ℕ)) (s : Script) → is_empty lines ≡ false → 6 < n → Valid p → judged long n p lines ≡ Ok s → LinesLeft p lines s

@@ -1,4 +1,5 @@
 -- The row lines of a script in range pass.
+use Rattle.std.proofs.lemmas.Bool.{and_from, or_parts, or_from, ltb-true, lt-ltb}
 use Rattle.std.proofs.Common.{◌≡◌, ℕ, suc, zero, ◌+◌, ◌^◌, ◌<◌, Bool, true, false, cond, List, [], ◌∷◌, map, length, refl, ap, ◌∙◌, arith}
 use Rattle.std.specs.Prelude.{Some, None, is_none, is_some, unwrap_or, bytes_eq, ◌&&◌, not, nat_lt, nat_le, decimal, flat_map}
 use Rattle.std.specs.List.{list_all, list_any, position_or_len}
@@ -20,11 +21,9 @@ use Rattle.step_tables.specs.Sound.{within, is_sound_action, is_sound_expiry, is
 use Rattle.step_tables.specs.Limits.{most_actions, most_delay}
 use Rattle.step_tables.specs.Judging.{outside, delay_no_number, delay_outside, named, unknown, number_named, order_name, reasons_named, action_of, expiry_of, row_of, is_timerless, is_expiry}
 use Rattle.std.proofs.lemmas.Slice.Eq.{bytes_eq-Decides}
-use Rattle.step_tables.proofs.Good.{neither}
-use Rattle.step_tables.proofs.RowsOf.{both, first_of_both, second_of_both}
+use Rattle.step_tables.proofs.RowsOf.{first_of_both, second_of_both}
 use Rattle.step_tables.proofs.Back.{IsOrder, AreOrders}
 use Rattle.step_tables.proofs.WordsAgain.{is_word, are_words, number_is_word, is_number, value_again, name_is_word, reasons_again, reasons_is_word}
-use Rattle.step_tables.proofs.RunAgain.{both_false}
 use Rattle.step_tables.proofs.Bounds.{within_outside, delay_small}
 
 pub same_word : (w : Word) → bytes_eq w w ≡ true
@@ -37,8 +36,8 @@ no_other false k = refl
 -- an element of a list of which none passes
 pub none_at : (test : Word → Bool) (ws : List Word) (i : ℕ) → list_any test ws ≡ false → i < length ws → test (name_at ws i) ≡ false
 none_at test [] i e h = absurd (omega arith)
-none_at test (w ∷ ws) zero e h = (neither (test w) _ e).0
-none_at test (w ∷ ws) (suc i) e h = none_at test ws i (neither (test w) _ e).1 (omega arith)
+none_at test (w ∷ ws) zero e h = (or_parts (test w) _ e).0
+none_at test (w ∷ ws) (suc i) e h = none_at test ws i (or_parts (test w) _ e).1 (omega arith)
 
 -- an element of a list of which each passes
 pub all_at : (test : Word → Bool) (ws : List Word) (i : ℕ) → list_all test ws ≡ true → i < length ws → test (name_at ws i) ≡ true
@@ -65,12 +64,6 @@ first_at (t ∷ ts) (suc i) d h =
     go true e k = absurd (cc)
     go false e k = omega arith
 
-pub less_test : (a b : ℕ) → a < b → nat_lt a b ≡ true
-less_test a b h = grind (arith, nat_tests)
-
-pub test_less : (a b : ℕ) → nat_lt a b ≡ true → a < b
-test_less a b h = grind (arith, nat_tests)
-
 pub chosen_then : {A : Type 0} (b : Bool) (x y : A) → b ≡ true → cond b x y ≡ x
 chosen_then true x y e = refl
 chosen_then false x y e = absurd (cc)
@@ -78,7 +71,7 @@ chosen_then false x y e = absurd (cc)
 named_again : (tasks : List TaskDef) (i : ℕ) → distinct_names (names_of tasks) ≡ true → i < length tasks → named tasks (name_at (names_of tasks) i) ≡ Some i
 unfolding named
 named_again tasks i d h =
-    ap (λ k. cond (nat_lt k (length tasks)) (Some k) None) (first_at tasks i d h) ∙ chosen_then (nat_lt i (length tasks)) (Some i) None (less_test i (length tasks) h)
+    ap (λ k. cond (nat_lt k (length tasks)) (Some k) None) (first_at tasks i d h) ∙ chosen_then (nat_lt i (length tasks)) (Some i) None (lt-ltb i (length tasks) h)
 
 pub known_again : (tasks : List TaskDef) (i : ℕ) → distinct_names (names_of tasks) ≡ true → i < length tasks → unknown tasks (name_at (names_of tasks) i) ≡ false
 unfolding unknown
@@ -89,12 +82,12 @@ pub action_again : (tasks : List TaskDef) (a : Action) → distinct_names (names
 unfolding action_of order_said number_named reasons_named
 action_again tasks (Wake i reasons) d e =
     let range = within_range reasons (second_of_both (nat_lt i.0 (length tasks)) _ e) in
-    λ j. Wake (record { 0 = unwrap_or (named_again tasks i.0 d (test_less i.0 (length tasks) (first_of_both (nat_lt i.0 (length tasks)) _ e)) j) 0 })
+    λ j. Wake (record { 0 = unwrap_or (named_again tasks i.0 d (ltb-true i.0 (length tasks) (first_of_both (nat_lt i.0 (length tasks)) _ e)) j) 0 })
     (unwrap_or (reasons_again reasons range.0 range.1 j) 0)
   where
     within_range : (k : ℕ) → within 1 127 k ≡ true → (0 < k) × (k < 128)
     within_range k f = grind (arith, nat_tests)
-action_again tasks (Kill i) d e = λ j. Kill (record { 0 = unwrap_or (named_again tasks i.0 d (test_less i.0 (length tasks) e) j) 0 })
+action_again tasks (Kill i) d e = λ j. Kill (record { 0 = unwrap_or (named_again tasks i.0 d (ltb-true i.0 (length tasks) e) j) 0 })
 
 within_reasons : (k : ℕ) → within 1 127 k ≡ true → (0 < k) × (k < 128)
 within_reasons k f = grind (arith, nat_tests)
@@ -107,21 +100,21 @@ pub order_fine : (tasks : List TaskDef) (a : Action) → list_all is_name (names
 unfolding order_said
 order_fine tasks (Wake i reasons) fine e =
     let range = within_reasons reasons (second_of_both (nat_lt i.0 (length tasks)) _ e) in
-    (name_fine tasks i.0 fine (test_less i.0 (length tasks) (first_of_both (nat_lt i.0 (length tasks)) _ e)), ap is_some (reasons_again reasons range.0 range.1))
-order_fine tasks (Kill i) fine e = name_fine tasks i.0 fine (test_less i.0 (length tasks) e)
+    (name_fine tasks i.0 fine (ltb-true i.0 (length tasks) (first_of_both (nat_lt i.0 (length tasks)) _ e)), ap is_some (reasons_again reasons range.0 range.1))
+order_fine tasks (Kill i) fine e = name_fine tasks i.0 fine (ltb-true i.0 (length tasks) e)
 
 pub order_known : (tasks : List TaskDef) (a : Action) → distinct_names (names_of tasks) ≡ true → is_sound_action (length tasks) a ≡ true → unknown tasks (order_name (order_said (names_of tasks) a)) ≡ false
 unfolding order_said
-order_known tasks (Wake i reasons) d e = known_again tasks i.0 d (test_less i.0 (length tasks) (first_of_both (nat_lt i.0 (length tasks)) _ e))
-order_known tasks (Kill i) d e = known_again tasks i.0 d (test_less i.0 (length tasks) e)
+order_known tasks (Wake i reasons) d e = known_again tasks i.0 d (ltb-true i.0 (length tasks) (first_of_both (nat_lt i.0 (length tasks)) _ e))
+order_known tasks (Kill i) d e = known_again tasks i.0 d (ltb-true i.0 (length tasks) e)
 
 pub order_are_words : (tasks : List TaskDef) (a : Action) → list_all is_name (names_of tasks) ≡ true → is_sound_action (length tasks) a ≡ true → are_words (order_words (order_said (names_of tasks) a)) ≡ true
 unfolding order_said
 order_are_words tasks (Wake i reasons) fine e =
     let range = within_reasons reasons (second_of_both (nat_lt i.0 (length tasks)) _ e) in
-    let name = name_fine tasks i.0 fine (test_less i.0 (length tasks) (first_of_both (nat_lt i.0 (length tasks)) _ e)) in
-    both true _ refl (both _ _ (name_is_word (name_at (names_of tasks) i.0) name) (both _ true (reasons_is_word reasons range.0 range.1) refl))
-order_are_words tasks (Kill i) fine e = both true _ refl (both _ true (name_is_word (name_at (names_of tasks) i.0) (name_fine tasks i.0 fine (test_less i.0 (length tasks) e))) refl)
+    let name = name_fine tasks i.0 fine (ltb-true i.0 (length tasks) (first_of_both (nat_lt i.0 (length tasks)) _ e)) in
+    and_from true _ refl (and_from _ _ (name_is_word (name_at (names_of tasks) i.0) name) (and_from _ true (reasons_is_word reasons range.0 range.1) refl))
+order_are_words tasks (Kill i) fine e = and_from true _ refl (and_from _ true (name_is_word (name_at (names_of tasks) i.0) (name_fine tasks i.0 fine (ltb-true i.0 (length tasks) e))) refl)
 
 pub actions_again : (tasks : List TaskDef) (as_ : List Action) → distinct_names (names_of tasks) ≡ true → list_all (is_sound_action (length tasks)) as_ ≡ true → map (action_of tasks) (map (order_said (names_of tasks)) as_) ≡ as_
 actions_again tasks [] d e = refl
@@ -134,13 +127,13 @@ orders_fine tasks (a ∷ as_) fine e = (order_fine tasks a fine (first_of_both _
 pub orders_known : (tasks : List TaskDef) (as_ : List Action) → distinct_names (names_of tasks) ≡ true → list_all (is_sound_action (length tasks)) as_ ≡ true → list_any (λ o. unknown tasks (order_name o)) (map (order_said (names_of tasks)) as_) ≡ false
 orders_known tasks [] d e = refl
 orders_known tasks (a ∷ as_) d e =
-    both_false (unknown tasks (order_name (order_said (names_of tasks) a))) _ (order_known tasks a d (first_of_both _ _ e)) (orders_known tasks as_ d (second_of_both (is_sound_action (length tasks) a) _ e))
+    or_from (unknown tasks (order_name (order_said (names_of tasks) a))) _ (order_known tasks a d (first_of_both _ _ e)) (orders_known tasks as_ d (second_of_both (is_sound_action (length tasks) a) _ e))
 
 pub orders_are_words : (tasks : List TaskDef) (as_ : List Action) → list_all is_name (names_of tasks) ≡ true → list_all (is_sound_action (length tasks)) as_ ≡ true → are_words (flat_map order_words (map (order_said (names_of tasks)) as_)) ≡ true
 orders_are_words tasks [] fine e = refl
 orders_are_words tasks (a ∷ as_) fine e =
     list_all-append is_word (order_words (order_said (names_of tasks) a)) (flat_map order_words (map (order_said (names_of tasks)) as_))
-    ∙ both _ _ (order_are_words tasks a fine (first_of_both _ _ e)) (orders_are_words tasks as_ fine (second_of_both (is_sound_action (length tasks) a) _ e))
+    ∙ and_from _ _ (order_are_words tasks a fine (first_of_both _ _ e)) (orders_are_words tasks as_ fine (second_of_both (is_sound_action (length tasks) a) _ e))
 
 -- an expiry in range
 pub delay_number : (kind : Kind) (e : Expiry) → is_sound_expiry kind e ≡ true → delay_no_number (delay_said e) ≡ false
@@ -180,7 +173,7 @@ expiry_again kind Never h = refl
 pub delay_are_words : (kind : Kind) (e : Expiry) → is_sound_expiry kind e ≡ true → are_words (delay_words (delay_said e)) ≡ true
 unfolding delay_said
 delay_are_words kind Keep h = refl
-delay_are_words (Pinned home nice) (After ticks) h = both true _ refl (both _ true (number_is_word ticks (delay_small ticks h)) refl)
+delay_are_words (Pinned home nice) (After ticks) h = and_from true _ refl (and_from _ true (number_is_word ticks (delay_small ticks h)) refl)
 delay_are_words (Shared nice) (After ticks) h = absurd (cc)
 delay_are_words (Tasklet home class) (After ticks) h = absurd (cc)
 delay_are_words kind Never h = refl
@@ -195,7 +188,7 @@ unfolding row_of
 row_again_of tasks kind rows name k r d few e =
     let e_2 = second_of_both (nat_le (length r.actions) most_actions) _ e in
     let e_3 = second_of_both (list_all (is_sound_action (length tasks)) r.actions) _ e_2 in
-    let next : r.next < rows = test_less r.next rows (second_of_both (is_sound_expiry kind r.expiry) _ e_3) in
+    let next : r.next < rows = ltb-true r.next rows (second_of_both (is_sound_expiry kind r.expiry) _ e_3) in
     λ i. record {
       actions = actions_again tasks r.actions d (first_of_both (list_all (is_sound_action (length tasks)) r.actions) _ e_2) i;
       expiry = expiry_again kind r.expiry (first_of_both (is_sound_expiry kind r.expiry) _ e_3) i;

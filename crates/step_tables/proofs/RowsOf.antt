@@ -1,4 +1,5 @@
 -- The tasks of a script while their rows come.
+use Rattle.std.proofs.lemmas.Bool.{and_from, eqb-true, eqb-false}
 use Rattle.std.proofs.Common.{◌≡◌, ℕ, suc, zero, ◌+◌, ◌≤◌, ◌<◌, Bool, true, false, List, [], ◌∷◌, ◌++◌, length, set, refl, ap, sym, ◌∙◌, arith, inl, inr, subst, length-append}
 use Rattle.std.specs.Prelude.{Some, ◌==◌, ◌&&◌, slice_get, slice_index, if◌then◌else◌}
 use Rattle.std.specs.List.{list_all}
@@ -11,10 +12,6 @@ use Rattle.step_tables.specs.Sound.{within, is_sound_kind, is_sound_row, is_soun
 use Rattle.step_tables.specs.Limits.{most_rows}
 use Rattle.step_tables.specs.Judging.{rows_made, with_row_at_end}
 use Rattle.step_tables.proofs.Steps.{chose}
-
-pub both : (a b : Bool) → a ≡ true → b ≡ true → (a && b) ≡ true
-both true b e f = f
-both false b e f = absurd (cc)
 
 pub first_of_both : (a b : Bool) → (a && b) ≡ true → a ≡ true
 first_of_both true b e = refl
@@ -84,7 +81,7 @@ fresh_more workers (u ∷ ts) (d ∷ cs) t c f is none = (f.0, f.1, fresh_more w
 
 rows_more : (n c : ℕ) (t : TaskDef) (row : Row) → SoundRows n c t → is_sound_row n t.kind c row ≡ true → SoundRows n c (with_row_at_end t row)
 unfolding with_row_at_end
-rows_more n c t row sound is = list_all-append (is_sound_row n t.kind c) t.rows (row ∷ []) ∙ both _ _ sound (both _ true is refl)
+rows_more n c t row sound is = list_all-append (is_sound_row n t.kind c) t.rows (row ∷ []) ∙ and_from _ _ sound (and_from _ true is refl)
 
 pub length_more : (t : TaskDef) (row : Row) → length (with_row_at_end t row).rows ≡ length t.rows + 1
 unfolding with_row_at_end
@@ -93,12 +90,6 @@ length_more t row = length-append t.rows (row ∷ [])
 task_more : (workers c : ℕ) (t : TaskDef) (row : Row) → IsTaskOf workers c t → IsTaskOf workers c (with_row_at_end t row)
 unfolding with_row_at_end
 task_more workers c t row is = record { name = is.name; kind = is.kind; count = is.count }
-
-test_yes : (a b : ℕ) → (a == b) ≡ true → a ≡ b
-test_yes a b e = grind (arith, nat_tests)
-
-test_no : (a b : ℕ) → (a == b) ≡ false → a ≡ b → ⊥
-test_no a b e h = grind (arith, nat_tests)
 
 -- one row more
 pub filled_more : (workers n at : ℕ) (ts : List TaskDef) (cs : List ℕ) (t : TaskDef) (row : Row) (next : ℕ)
@@ -115,9 +106,9 @@ filled_more workers n zero (u ∷ ts) (c ∷ cs) t row next f e is next_is =
     let long : length (with_row_at_end t row).rows ≡ length t.rows + 1 = length_more t row in
     elim (chose (length t.rows + 1 == c) 1 0 next (sym next_is)) [
       | inl h ↦ subst (λ k. Filled workers n k (with_row_at_end t row ∷ ts) (c ∷ cs)) h.1
-          (task_more workers c t row task_is, rows_more n c t row sound is, long ∙ test_yes _ _ h.0, filled_from_fresh workers n ts cs f.3)
+          (task_more workers c t row task_is, rows_more n c t row sound is, long ∙ eqb-true _ _ h.0, filled_from_fresh workers n ts cs f.3)
       | inr h ↦ subst (λ k. Filled workers n k (with_row_at_end t row ∷ ts) (c ∷ cs)) h.1
-          (task_more workers c t row task_is, rows_more n c t row sound is, (let other = test_no (length t.rows + 1) c h.0 in omega arith), f.3)
+          (task_more workers c t row task_is, rows_more n c t row sound is, (let other = eqb-false (length t.rows + 1) c h.0 in omega arith), f.3)
     ]
 filled_more workers n (suc at) [] cs t row next f e is next_is = absurd f
 filled_more workers n (suc at) (u ∷ ts) [] t row next f e is next_is = absurd f
@@ -138,8 +129,8 @@ all_filled workers n zero (t ∷ ts) cs f e = absurd (omega arith)
 all_filled workers n (suc at) [] cs f e = absurd f
 all_filled workers n (suc at) (t ∷ ts) [] f e = absurd f
 all_filled workers n (suc at) (t ∷ ts) (c ∷ cs) f e =
-    both _ _
-    (both _ _ f.0.name (both _ _ f.0.kind (both _ _
+    and_from _ _
+    (and_from _ _ f.0.name (and_from _ _ f.0.kind (and_from _ _
     (ap (within 1 most_rows) f.2 ∙ f.0.count)
     (ap (λ k. list_all (is_sound_row n t.kind k) t.rows) f.2 ∙ f.1))))
     (all_filled workers n at ts cs f.3 (omega arith))

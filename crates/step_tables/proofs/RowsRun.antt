@@ -1,4 +1,5 @@
 -- The row lines of a script in range pass, one after another.
+use Rattle.std.proofs.lemmas.Bool.{and_from, or_from, eq-eqb, leb-true, lt-leb, ltb-true, le-ltb, not_from_true}
 use Rattle.std.proofs.Common.{◌≡◌, ℕ, suc, ◌+◌, ◌^◌, ◌≤◌, ◌<◌, Bool, true, false, cond, List, [], ◌∷◌, ◌++◌, map, length, set, refl, ap, sym, ◌∙◌, arith, subst, append_assoc, append-nil, length-append}
 use Rattle.std.specs.Prelude.{Some, None, bytes_eq, codes, not, ◌==◌, nat_lt, nat_le, decimal, slice_get, slice_index, flat_map, if◌then◌else◌}
 use Rattle.std.specs.List.{list_all}
@@ -17,14 +18,14 @@ use Rattle.step_tables.specs.Text.{order_words, delay_words, said_words, name_at
 use Rattle.step_tables.specs.Sound.{within, is_sound_action, is_sound_expiry, is_sound_kind, is_sound_row, is_sound_task, distinct_names}
 use Rattle.step_tables.specs.Limits.{most_rows, most_actions}
 use Rattle.step_tables.specs.Judging.{all_rows, due, promised, value, no_number, delay_no_number, unknown, wrong_target, barred, with_row_at_end, with_row, with_line}
-use Rattle.step_tables.proofs.RowsOf.{both, first_of_both, second_of_both}
+use Rattle.step_tables.proofs.RowsOf.{first_of_both, second_of_both}
 use Rattle.step_tables.proofs.NameAt.{name_there}
 use Rattle.step_tables.proofs.Good.{inside_get}
 use Rattle.step_tables.proofs.WordsAgain.{is_word, are_words, number_is_word, is_number, value_again, name_is_word}
-use Rattle.step_tables.proofs.RunAgain.{Passes, Runs, runs_then, no_kind, both_false}
+use Rattle.step_tables.proofs.RunAgain.{Passes, Runs, runs_then, no_kind}
 use Rattle.step_tables.proofs.Bounds.{within_most, rows_small}
 use Rattle.step_tables.proofs.TasksAgain.{base, bare, lens, bare_names}
-use Rattle.step_tables.proofs.RowsAgain.{known_again, name_fine, orders_fine, orders_known, orders_are_words, delay_number, delay_inside, delay_allowed, delay_are_words, row_line_of, row_again_of, test_less, same_word, chosen_then}
+use Rattle.step_tables.proofs.RowsAgain.{known_again, name_fine, orders_fine, orders_known, orders_are_words, delay_number, delay_inside, delay_allowed, delay_are_words, row_line_of, row_again_of, same_word, chosen_then}
 
 -- a row that comes now, of a task with so many rows
 pub record RowNow (p : Progress) (u : TaskDef) (rows : ℕ) (r : Row) : Type 0 where
@@ -41,15 +42,6 @@ pub record RowNow (p : Progress) (u : TaskDef) (rows : ℕ) (r : Row) : Type 0 w
 due_name : (p : Progress) (u : TaskDef) → due p ≡ Some u → name_at (names_of p.tasks) p.at ≡ u.name
 due_name p u e = name_there p.tasks p.at u e
 
-equal_test : (a b : ℕ) → a ≡ b → not (a == b) ≡ false
-equal_test a b e = grind (arith, nat_tests)
-
-below_test : (a b : ℕ) → a < b → nat_le b a ≡ false
-below_test a b e = grind (arith, nat_tests)
-
-few_test : (n high : ℕ) → nat_le n high ≡ true → nat_lt high n ≡ false
-few_test n high e = grind (arith, nat_tests)
-
 small_below : (a b : ℕ) → a < 10 ^ 10 → b < a → b < 10 ^ 10
 small_below a b h k = omega arith
 
@@ -58,12 +50,12 @@ row_words : (tasks : List TaskDef) (kind : Kind) (rows : ℕ) (name : Word) (k :
 row_words tasks kind rows name k r fine few small named e =
     let e_2 = second_of_both (nat_le (length r.actions) most_actions) _ e in
     let e_3 = second_of_both (list_all (is_sound_action (length tasks)) r.actions) _ e_2 in
-    let next : r.next < rows = test_less r.next rows (second_of_both (is_sound_expiry kind r.expiry) _ e_3) in
-    both true _ refl (both _ _ (name_is_word name named) (both _ _ (number_is_word k small)
+    let next : r.next < rows = ltb-true r.next rows (second_of_both (is_sound_expiry kind r.expiry) _ e_3) in
+    and_from true _ refl (and_from _ _ (name_is_word name named) (and_from _ _ (number_is_word k small)
     (list_all-append is_word (flat_map order_words (map (order_said (names_of tasks)) r.actions)) (delay_words (delay_said r.expiry) ++ codes "next" ∷ decimal r.next ∷ [])
-    ∙ both _ _ (orders_are_words tasks r.actions fine (first_of_both (list_all (is_sound_action (length tasks)) r.actions) _ e_2))
+    ∙ and_from _ _ (orders_are_words tasks r.actions fine (first_of_both (list_all (is_sound_action (length tasks)) r.actions) _ e_2))
     (list_all-append is_word (delay_words (delay_said r.expiry)) (codes "next" ∷ decimal r.next ∷ [])
-    ∙ both _ _ (delay_are_words kind r.expiry (first_of_both (is_sound_expiry kind r.expiry) _ e_3)) (both true _ refl (both _ true (number_is_word r.next (small_below rows r.next few next)) refl))))))
+    ∙ and_from _ _ (delay_are_words kind r.expiry (first_of_both (is_sound_expiry kind r.expiry) _ e_3)) (and_from true _ refl (and_from _ true (number_is_word r.next (small_below rows r.next few next)) refl))))))
 
 -- it passes
 row_passes : (p : Progress) (u : TaskDef) (rows : ℕ) (r : Row) → RowNow p u rows r → Passes p (row (row_line_of (names_of p.tasks) u.name (length u.rows) r))
@@ -73,7 +65,7 @@ row_passes p u rows r now =
     let actions = first_of_both (list_all (is_sound_action (length p.tasks)) r.actions) _ e_2 in
     let e_3 = second_of_both (list_all (is_sound_action (length p.tasks)) r.actions) _ e_2 in
     let expiry = first_of_both (is_sound_expiry u.kind r.expiry) _ e_3 in
-    let next : r.next < rows = test_less r.next rows (second_of_both (is_sound_expiry u.kind r.expiry) _ e_3) in
+    let next : r.next < rows = ltb-true r.next rows (second_of_both (is_sound_expiry u.kind r.expiry) _ e_3) in
     let at : p.at < length p.tasks = inside_get p.tasks p.at u now.is_due in
     let k_small : length u.rows < 10 ^ 10 = small_below rows (length u.rows) now.few now.more in
     let next_small : r.next < 10 ^ 10 = small_below rows r.next now.few next in
@@ -84,14 +76,14 @@ row_passes p u rows r now =
       words = row_words p.tasks u.kind rows u.name (length u.rows) r now.fine now.few k_small named e;
       comes = ap not now.left;
       good =
-          no_kind _ kinds.Number _ (both_false (no_number (decimal (length u.rows))) _ (is_number (length u.rows) k_small) (both_false (delay_no_number (delay_said r.expiry)) _ (delay_number u.kind r.expiry expiry) (is_number r.next next_small)))
-          (no_kind _ kinds.UnknownTask _ (both_false (unknown p.tasks u.name) _ (ap (unknown p.tasks) (sym (due_name p u now.is_due)) ∙ known_again p.tasks p.at now.distinct at) (orders_known p.tasks r.actions now.distinct actions))
+          no_kind _ kinds.Number _ (or_from (no_number (decimal (length u.rows))) _ (is_number (length u.rows) k_small) (or_from (delay_no_number (delay_said r.expiry)) _ (delay_number u.kind r.expiry expiry) (is_number r.next next_small)))
+          (no_kind _ kinds.UnknownTask _ (or_from (unknown p.tasks u.name) _ (ap (unknown p.tasks) (sym (due_name p u now.is_due)) ∙ known_again p.tasks p.at now.distinct at) (orders_known p.tasks r.actions now.distinct actions))
           (no_kind _ kinds.RowTarget _ (ap (λ d. wrong_target p d (row_line_of (names_of p.tasks) u.name (length u.rows) r)) now.is_due
-          ∙ both_false (not (bytes_eq u.name u.name)) _ (ap not (same_word u.name))
-          (both_false (not (value (decimal (length u.rows)) == length u.rows)) _ (equal_test _ _ (value_again (length u.rows) k_small))
-          ((λ i. nat_le (now.promise i) (value_again r.next next_small i)) ∙ below_test r.next rows next)))
+          ∙ or_from (not (bytes_eq u.name u.name)) _ (ap not (same_word u.name))
+          (or_from (not (value (decimal (length u.rows)) == length u.rows)) _ (not_from_true _ (eq-eqb _ _ (value_again (length u.rows) k_small)))
+          ((λ i. nat_le (now.promise i) (value_again r.next next_small i)) ∙ lt-leb rows r.next next)))
           (no_kind _ kinds.ExpiryBarred _ (ap (λ d. barred d (delay_said r.expiry)) now.is_due ∙ delay_allowed u.kind r.expiry expiry)
-          (no_kind _ kinds.LimitPassed None (both_false (nat_lt most_actions (length (map (order_said (names_of p.tasks)) r.actions))) _ (ap (nat_lt most_actions) (length-map r.actions (order_said (names_of p.tasks))) ∙ few_test (length r.actions) most_actions (first_of_both (nat_le (length r.actions) most_actions) _ e)) (delay_inside u.kind r.expiry expiry)) refl))));
+          (no_kind _ kinds.LimitPassed None (or_from (nat_lt most_actions (length (map (order_said (names_of p.tasks)) r.actions))) _ (ap (nat_lt most_actions) (length-map r.actions (order_said (names_of p.tasks))) ∙ le-ltb most_actions (length r.actions) (leb-true (length r.actions) most_actions (first_of_both (nat_le (length r.actions) most_actions) _ e))) (delay_inside u.kind r.expiry expiry)) refl))));
     }
 
 -- and adds itself

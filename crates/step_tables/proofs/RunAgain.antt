@@ -1,8 +1,8 @@
 -- Lines that pass are taken one after another.
 use Rattle.std.proofs.Common.{◌≡◌, ℕ, ◌+◌, ◌-◌, ◌^◌, ◌<◌, Bool, true, false, cond, List, [], ◌∷◌, ◌++◌, map, refl, ap, sym, ◌∙◌, arith, subst, append_assoc, inl, inr, eqb-true}
-use Rattle.std.specs.Prelude.{Option, Some, None, Ok, Err, ◌||◌, ◌==◌, decimal}
+use Rattle.std.specs.Prelude.{Option, Some, None, Ok, Err, ◌==◌, decimal}
 use Rattle.std.specs.List.{join_with_byte, list_all}
-use Rattle.std.proofs.lemmas.Bool.{cases_Bool}
+use Rattle.std.proofs.lemmas.Bool.{cases_Bool, and_from, cond-true, cond-false}
 use Rattle.std.proofs.lemmas.Bool.Decides.{nat_tests}
 use Rattle.step_tables.specs.Sound.{within}
 use Rattle.step_tables.specs.declared.faults.FaultKind.TheVariants as kinds
@@ -19,7 +19,7 @@ use Rattle.step_tables.proofs.Bounds.{inside_small}
 use Rattle.step_tables.proofs.Back.{IsBody}
 use Rattle.step_tables.proofs.Steps.{judged, judged_more}
 use Rattle.step_tables.proofs.Walk.{get_past}
-use Rattle.step_tables.proofs.RowsOf.{both, first_of_both, second_of_both}
+use Rattle.step_tables.proofs.RowsOf.{first_of_both, second_of_both}
 use Rattle.step_tables.proofs.WordsAgain.{is_word, are_words, words_again, words_one_line, first_piece, number_is_word, is_number, value_again}
 use Rattle.step_tables.proofs.ShapesAgain.{body_again, setting_again}
 
@@ -52,10 +52,6 @@ pub no_kind : {K : Type 0} (b : Bool) (kind : K) (rest : Option K) → b ≡ fal
 no_kind true kind rest e f = absurd (cc)
 no_kind false kind rest e f = f
 
-pub both_false : (a b : Bool) → a ≡ false → b ≡ false → (a || b) ≡ false
-both_false true b e f = absurd (cc)
-both_false false b e f = f
-
 some_words : (ws : List Word) → is_empty ws ≡ false → are_words ws ≡ true → words_of (join_with_byte 32 ws) ≡ Some ws
 some_words [] e f = absurd (cc)
 some_words (w ∷ ws) e f = words_again w ws f
@@ -70,23 +66,15 @@ said_some ends = refl
 not_first : (n : ℕ) → 1 < n → (n == 1) ≡ false
 not_first n h = grind (arith, nat_tests)
 
-chosen_else : {A : Type 0} (b : Bool) (x y : A) → b ≡ false → cond b x y ≡ y
-chosen_else true x y e = absurd (cc)
-chosen_else false x y e = refl
-
-chosen_then : {A : Type 0} (b : Bool) (x y : A) → b ≡ true → cond b x y ≡ x
-chosen_then true x y e = refl
-chosen_then false x y e = absurd (cc)
-
 -- a line that passes is taken
 taken_said : (n : ℕ) (p : Progress) (x : Said) → 1 < n → p.ended ≡ false → said_of n (bytes_of x) ≡ Some x → may_come p x ≡ true → first_fault (tests p x) ≡ None
     → line_taken scripts None n p (bytes_of x) ≡ Ok (with_line p x)
 unfolding line_taken judge judge_said judge_tested
 taken_said n p x later unended says comes good =
-    chosen_else p.ended (Err _) (at_line n (judge n p (bytes_of x))) unended
-    ∙ ap (at_line n) (chosen_else (n == 1) _ (judge_said p (said_of n (bytes_of x))) (not_first n later)
+    cond-false p.ended (Err _) (at_line n (judge n p (bytes_of x))) unended
+    ∙ ap (at_line n) (cond-false (n == 1) _ (judge_said p (said_of n (bytes_of x))) (not_first n later)
     ∙ ap (judge_said p) says
-    ∙ chosen_then (may_come p x) _ (Err kinds.Word) comes
+    ∙ cond-true (may_come p x) _ (Err kinds.Word) comes
     ∙ ap (λ k. judge_tested k (with_line p x)) good)
 
 body_said_again : (n : ℕ) (x : Said) → 6 < n → IsBody x → are_words (said_words x) ≡ true → said_of n (bytes_of x) ≡ Some x
@@ -104,14 +92,14 @@ lines_some (x ∷ xs) = refl
 pub run_lines : (n : ℕ) (p q : Progress) (xs : List Said) → 6 < n → Runs p xs q → q.ended ≡ true → judged None n p (map bytes_of xs ++ [] ∷ []) ≡ Ok (script_from q)
 unfolding folded closed
 run_lines n p q [] behind r e =
-    ap (λ k. judged None n k ([] ∷ [])) r ∙ ap script_read (chosen_then q.ended (Ok q) _ e)
+    ap (λ k. judged None n k ([] ∷ [])) r ∙ ap script_read (cond-true q.ended (Ok q) _ e)
 run_lines n p q (x ∷ xs) behind r e =
     judged_more None n p (with_line p x) (bytes_of x) (map bytes_of xs ++ [] ∷ []) (lines_some xs) (taken_said n p x (omega arith) r.0.unended (body_said_again n x behind r.0.body r.0.words) r.0.comes r.0.good)
     ∙ run_lines (n + 1) (with_line p x) q xs (omega arith) r.1 e
 
 -- a setting's line
 pub setting_words : (setting : Setting) (n : ℕ) → n < 10 ^ 10 → are_words (said_words (sets setting (decimal n))) ≡ true
-setting_words setting n h = both _ _ (named setting) (both _ true (number_is_word n h) refl)
+setting_words setting n h = and_from _ _ (named setting) (and_from _ true (number_is_word n h) refl)
   where
     named : (x : Setting) → is_word (setting_name x) ≡ true
     named Workers = refl

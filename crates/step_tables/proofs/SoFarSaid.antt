@@ -1,4 +1,5 @@
 -- What the lines so far have said, told from what was read of them.
+use Rattle.std.proofs.lemmas.Bool.{or_parts}
 use Rattle.std.proofs.Common.{◌≡◌, ℕ, suc, zero, ◌+◌, ◌<◌, Bool, true, false, cond, List, [], ◌∷◌, ◌++◌, map, length, set, refl, ap, sym, ◌∙◌, arith, subst, append_assoc, append-nil}
 use Rattle.std.specs.Prelude.{Some, None, is_none, unwrap_or, bytes_eq, not, nat_lt, decimal, slice_get, flat_map}
 use Rattle.std.specs.List.{list_any, position_or_len}
@@ -12,7 +13,7 @@ use Rattle.step_tables.specs.Shapes.{Order, wakes, kills, Delay, keeps, after, n
 use Rattle.step_tables.specs.Text.{name_at, order_said, delay_said, place_said, task_said, row_said, rows_said, event_said, names_of, body_said}
 use Rattle.step_tables.specs.Judging.{value, no_number, no_signed, place_no_number, delay_no_number, unknown, named, number_named, order_name, action_of, expiry_of, kind_of, task_of, row_of, event_of, with_row_at_end}
 use Rattle.step_tables.proofs.Back.{IsOrder, AreOrders, bytes_same}
-use Rattle.step_tables.proofs.Good.{neither, GoodRow, GoodEvent, GoodTask}
+use Rattle.step_tables.proofs.Good.{GoodRow, GoodEvent, GoodTask}
 use Rattle.step_tables.proofs.RowsOf.{Fresh, Filled}
 use Rattle.step_tables.proofs.Valid.{Valid}
 use Rattle.step_tables.proofs.WordsBack.{value_back, signed_value_back, reasons_back}
@@ -38,7 +39,7 @@ so_far p = tasks_so_far p.tasks p.counts ++ (rows_so_far (names_of p.tasks) p.ta
 -- the words of a place are what is written of its kind
 place_back : (place : Place) → place_no_number place ≡ false → place_said (kind_of place) ≡ place
 unfolding place_said kind_of place_no_number
-place_back (pinned home nice) e = let (a, b) = neither (no_number home) (no_signed nice) e in λ i. pinned (sym (value_back home a) i) (sym (signed_value_back nice b) i)
+place_back (pinned home nice) e = let (a, b) = or_parts (no_number home) (no_signed nice) e in λ i. pinned (sym (value_back home a) i) (sym (signed_value_back nice b) i)
 place_back (shared nice) e = ap shared (sym (signed_value_back nice e))
 place_back (tasklet home class) e = ap (λ w. tasklet w class) (sym (value_back home e))
 
@@ -80,20 +81,20 @@ order_back tasks (kills name) is known = ap kills (name_back_at tasks name known
 
 orders_back : (tasks : List TaskDef) (os : List Order) → AreOrders os → list_any (λ o. unknown tasks (order_name o)) os ≡ false → map (order_said (names_of tasks)) (map (action_of tasks) os) ≡ os
 orders_back tasks [] are known = refl
-orders_back tasks (o ∷ os) are known = let (first, others) = neither _ _ known in λ i. order_back tasks o are.0 first i ∷ orders_back tasks os are.1 others i
+orders_back tasks (o ∷ os) are known = let (first, others) = or_parts _ _ known in λ i. order_back tasks o are.0 first i ∷ orders_back tasks os are.1 others i
 
 -- what a good line says is what is written of what it adds
 pub task_line_back : (p : Progress) (line : TaskLine) → GoodTask p line → task_said (task_of line) (value line.rows) ≡ task line
 unfolding task_said task_of
 task_line_back p line good =
-    let (place, rows) = neither _ _ good.numbers in
+    let (place, rows) = or_parts _ _ good.numbers in
     λ i. task (record { name = line.name; place = place_back line.place place i; rows = sym (value_back line.rows rows) i; init = line.init })
 
 pub row_line_back : (p : Progress) (line : RowLine) (good : GoodRow p line) → AreOrders line.orders → row_said (names_of p.tasks) good.task.name (length good.task.rows) (row_of p.tasks line) ≡ row line
 unfolding row_said row_of
 row_line_back p line good are =
-    let (number, more) = neither _ _ good.numbers in
-    let (delay, next) = neither _ _ more in
+    let (number, more) = or_parts _ _ good.numbers in
+    let (delay, next) = or_parts _ _ more in
     λ i. row (record {
       name = bytes_same good.task.name line.name good.target.name i;
       number = (ap decimal (sym good.target.number) ∙ sym (value_back line.number number)) i;

@@ -1,4 +1,5 @@
 -- The task lines of a script in range pass.
+use Rattle.std.proofs.lemmas.Bool.{and_from, or_parts, or_from, lt-leb, ltb-true}
 use Rattle.std.proofs.Common.{◌≡◌, ℕ, suc, ◌+◌, ◌^◌, ◌≤◌, ◌<◌, Bool, true, false, cond, List, [], ◌∷◌, ◌++◌, map, length, refl, ap, sym, ◌∙◌, arith, subst, append_assoc, append-nil, length-append}
 use Rattle.std.specs.Prelude.{Some, None, ℤ, pos, negsuc, int_lt, is_none, bytes_eq, codes, ◌&&◌, ◌||◌, not, ◌==◌, nat_lt, nat_le, decimal, slice_get}
 use Rattle.std.specs.List.{list_all, list_any, position_or_len}
@@ -19,11 +20,10 @@ use Rattle.step_tables.specs.Text.{init_words, place_words, task_word, said_word
 use Rattle.step_tables.specs.Sound.{within, is_nice, is_sound_kind, is_sound_task, distinct_names}
 use Rattle.step_tables.specs.Limits.{limits_of, most_rows}
 use Rattle.step_tables.specs.Judging.{rows_made, value, signed_value, outside, outside_nice, place_no_number, place_outside, named, unknown, kind_of, task_of, with_task, with_line}
-use Rattle.step_tables.proofs.RowsOf.{both, first_of_both, second_of_both}
-use Rattle.step_tables.proofs.Good.{neither}
+use Rattle.step_tables.proofs.RowsOf.{first_of_both, second_of_both}
 use Rattle.step_tables.proofs.WordsAgain.{is_word, are_words, size, number_is_word, is_number, value_again, signed_is_word, is_signed, signed_value_again, name_is_word, class_is_word}
 use Rattle.step_tables.proofs.Bounds.{within_outside, rows_small}
-use Rattle.step_tables.proofs.RunAgain.{Passes, Runs, no_kind, both_false}
+use Rattle.step_tables.proofs.RunAgain.{Passes, Runs, no_kind}
 
 -- what is read so far, of a script's settings and these parts
 abbrev pub base : Script → List TaskDef → List ℕ → ℕ → List Event → Progress
@@ -56,9 +56,6 @@ nice_inside z e = step (int_lt z (negsuc 1023)) (int_lt (pos 1024) z) e
     step false true h = absurd (cc)
     step false false h = refl
 
-home_below : (home workers : ℕ) → nat_lt home workers ≡ true → nat_le workers home ≡ false
-home_below home workers e = grind (arith, nat_tests)
-
 home_small : (home workers : ℕ) → nat_lt home workers ≡ true → workers < 10 ^ 10 → home < 10 ^ 10
 home_small home workers e h = let less = below home workers e in omega arith
   where
@@ -68,18 +65,18 @@ home_small home workers e h = let less = below home workers e in omega arith
 -- the place of a kind in range
 place_numbers : (workers : ℕ) (kind : Kind) → workers < 10 ^ 10 → is_sound_kind workers kind ≡ true → place_no_number (place_said kind) ≡ false
 unfolding place_no_number place_said
-place_numbers workers (Pinned home nice) few e = both_false _ _ (is_number home (home_small home workers (first_of_both _ _ e) few)) (is_signed nice (nice_size nice (second_of_both (nat_lt home workers) _ e)))
+place_numbers workers (Pinned home nice) few e = or_from _ _ (is_number home (home_small home workers (first_of_both _ _ e) few)) (is_signed nice (nice_size nice (second_of_both (nat_lt home workers) _ e)))
 place_numbers workers (Shared nice) few e = is_signed nice (nice_size nice e)
 place_numbers workers (Tasklet home class) few e = is_number home (home_small home workers e few)
 
 place_inside : (workers : ℕ) (kind : Kind) → workers < 10 ^ 10 → is_sound_kind workers kind ≡ true → place_outside workers (place_said kind) ≡ false
 unfolding place_outside place_said
 place_inside workers (Pinned home nice) few e =
-    both_false (nat_le workers (value (decimal home))) (outside_nice (signed_value (signed_decimal nice)))
-    (ap (nat_le workers) (value_again home (home_small home workers (first_of_both _ _ e) few)) ∙ home_below home workers (first_of_both _ _ e))
+    or_from (nat_le workers (value (decimal home))) (outside_nice (signed_value (signed_decimal nice)))
+    (ap (nat_le workers) (value_again home (home_small home workers (first_of_both _ _ e) few)) ∙ lt-leb workers home (ltb-true home workers (first_of_both _ _ e)))
     (ap outside_nice (signed_value_again nice (nice_size nice (second_of_both (nat_lt home workers) _ e))) ∙ nice_inside nice (second_of_both (nat_lt home workers) _ e))
 place_inside workers (Shared nice) few e = ap outside_nice (signed_value_again nice (nice_size nice e)) ∙ nice_inside nice e
-place_inside workers (Tasklet home class) few e = ap (nat_le workers) (value_again home (home_small home workers e few)) ∙ home_below home workers e
+place_inside workers (Tasklet home class) few e = ap (nat_le workers) (value_again home (home_small home workers e few)) ∙ lt-leb workers home (ltb-true home workers e)
 
 kind_again : (workers : ℕ) (kind : Kind) → workers < 10 ^ 10 → is_sound_kind workers kind ≡ true → kind_of (place_said kind) ≡ kind
 unfolding kind_of place_said
@@ -95,9 +92,9 @@ init_are_words false = refl
 place_are_words : (workers : ℕ) (kind : Kind) → workers < 10 ^ 10 → is_sound_kind workers kind ≡ true → are_words (place_words (place_said kind)) ≡ true
 unfolding place_said
 place_are_words workers (Pinned home nice) few e =
-    both true _ refl (both _ _ (number_is_word home (home_small home workers (first_of_both _ _ e) few)) (both true _ refl (both _ true (signed_is_word nice (nice_size nice (second_of_both (nat_lt home workers) _ e))) refl)))
-place_are_words workers (Shared nice) few e = both _ true (signed_is_word nice (nice_size nice e)) refl
-place_are_words workers (Tasklet home class) few e = both _ _ (number_is_word home (home_small home workers e few)) (both _ true (class_is_word class) refl)
+    and_from true _ refl (and_from _ _ (number_is_word home (home_small home workers (first_of_both _ _ e) few)) (and_from true _ refl (and_from _ true (signed_is_word nice (nice_size nice (second_of_both (nat_lt home workers) _ e))) refl)))
+place_are_words workers (Shared nice) few e = and_from _ true (signed_is_word nice (nice_size nice e)) refl
+place_are_words workers (Tasklet home class) few e = and_from _ _ (number_is_word home (home_small home workers e few)) (and_from _ true (class_is_word class) refl)
 
 first_is_word : (place : Place) → is_word (task_word place) ≡ true
 first_is_word (pinned home nice) = refl
@@ -107,9 +104,9 @@ first_is_word (tasklet home class) = refl
 pub task_words : (workers : ℕ) (t : TaskDef) (n : ℕ) → workers < 10 ^ 10 → is_name t.name ≡ true → is_sound_kind workers t.kind ≡ true → n < 10 ^ 10 → are_words (said_words (task_said t n)) ≡ true
 unfolding task_said
 task_words workers t n few name kind small =
-    both _ _ (first_is_word (place_said t.kind)) (both _ _ (name_is_word t.name name)
+    and_from _ _ (first_is_word (place_said t.kind)) (and_from _ _ (name_is_word t.name name)
     (list_all-append is_word (place_words (place_said t.kind)) (codes "rows" ∷ decimal n ∷ init_words t.init)
-    ∙ both _ _ (place_are_words workers t.kind few kind) (both _ _ (number_is_word n small) (init_are_words t.init))))
+    ∙ and_from _ _ (place_are_words workers t.kind few kind) (and_from _ _ (number_is_word n small) (init_are_words t.init))))
 
 -- a name that no task has
 fresh_name : (tasks : List TaskDef) (name : Word) → list_any (λ other. bytes_eq other name) (names_of tasks) ≡ false → unknown tasks name ≡ true
@@ -146,15 +143,15 @@ fresh_name tasks name e = past (position_or_len (λ t. bytes_eq t.name name) tas
 new_name : (before : List Word) (name : Word) (behind : List Word) → distinct_names (before ++ name ∷ behind) ≡ true → list_any (λ other. bytes_eq other name) before ≡ false
 new_name [] name behind e = refl
 new_name (w ∷ before) name behind e =
-    both_false (bytes_eq w name) _ (other before (no_other _ (first_of_both _ _ e))) (new_name before name behind (second_of_both (not (list_any (λ other. bytes_eq w other) (before ++ name ∷ behind))) _ e))
+    or_from (bytes_eq w name) _ (other before (no_other _ (first_of_both _ _ e))) (new_name before name behind (second_of_both (not (list_any (λ other. bytes_eq w other) (before ++ name ∷ behind))) _ e))
   where
     no_other : (a : Bool) → not a ≡ true → a ≡ false
     no_other true k = absurd (cc)
     no_other false k = refl
 
     other : (ws : List Word) → list_any (λ v. bytes_eq w v) (ws ++ name ∷ behind) ≡ false → bytes_eq w name ≡ false
-    other [] k = (neither (bytes_eq w name) _ k).0
-    other (v ∷ ws) k = other ws (neither (bytes_eq w v) _ k).1
+    other [] k = (or_parts (bytes_eq w name) _ k).0
+    other (v ∷ ws) k = other ws (or_parts (bytes_eq w v) _ k).1
 
 pub bare_names : (tasks : List TaskDef) → names_of (map bare tasks) ≡ names_of tasks
 bare_names [] = refl
@@ -163,12 +160,6 @@ bare_names (t ∷ ts) = ap (λ ns. t.name ∷ ns) (bare_names ts)
 none_started : (done : List TaskDef) → rows_made (slice_get (map bare done) 0) ≡ 0
 none_started [] = refl
 none_started (t ∷ ts) = refl
-
-is_test : (a b : ℕ) → a ≡ b → (a == b) ≡ true
-is_test a b e = grind (arith, nat_tests)
-
-few_test : (n most : ℕ) → n < most → nat_le most n ≡ false
-few_test n most h = grind (arith, nat_tests)
 
 -- a task line adds its task
 task_added : (s : Script) (done : List TaskDef) (t : TaskDef) → s.workers < 10 ^ 10 → is_sound_kind s.workers t.kind ≡ true → length t.rows < 10 ^ 10
@@ -188,14 +179,14 @@ task_passes s done t rest few name kind count small distinct room = record {
   unended = refl;
   body = name;
   words = words_of_task;
-  comes = both _ true (both true _ refl (ap (λ n. n == 0) (none_started done))) refl;
+  comes = and_from _ true (and_from true _ refl (ap (λ n. n == 0) (none_started done))) refl;
   good =
-      no_kind _ kinds.Number _ (both_false (place_no_number (place_said t.kind)) _ (place_numbers s.workers t.kind few kind) (is_number (length t.rows) small))
+      no_kind _ kinds.Number _ (or_from (place_no_number (place_said t.kind)) _ (place_numbers s.workers t.kind few kind) (is_number (length t.rows) small))
       (no_kind _ kinds.TwiceNamed _ (ap not (fresh_name (map bare done) t.name (ap (list_any (λ other. bytes_eq other t.name)) (bare_names done) ∙ new_name (names_of done) t.name (names_of rest) (ap distinct_names (sym (map-append (λ u. u.name) done (t ∷ rest))) ∙ distinct))))
       (no_kind _ kinds.LimitPassed None
-      (both_false (place_outside s.workers (place_said t.kind)) _ (place_inside s.workers t.kind few kind)
-      (both_false (outside 1 most_rows (value (decimal (length t.rows)))) _ (ap (outside 1 most_rows) (value_again (length t.rows) small) ∙ within_outside 1 most_rows (length t.rows) count)
-      (ap (nat_le (limits_of s.version).tasks) (length-map done bare) ∙ few_test (length done) (limits_of s.version).tasks room)))
+      (or_from (place_outside s.workers (place_said t.kind)) _ (place_inside s.workers t.kind few kind)
+      (or_from (outside 1 most_rows (value (decimal (length t.rows)))) _ (ap (outside 1 most_rows) (value_again (length t.rows) small) ∙ within_outside 1 most_rows (length t.rows) count)
+      (ap (nat_le (limits_of s.version).tasks) (length-map done bare) ∙ lt-leb (limits_of s.version).tasks (length done) room)))
       refl));
 }
   where

@@ -2,8 +2,7 @@
 use Rattle.std.proofs.Common.{◌≡◌, ℕ, suc, ◌+◌, ◌^◌, ◌≤◌, ◌<◌, true, false, List, [], ◌∷◌, ◌++◌, map, length, refl, ap, sym, ◌∙◌, arith, subst, append_assoc, append-nil, length-append, lit<, inl, inr}
 use Rattle.std.specs.Prelude.{unwrap_or, None, Ok, not, ◌==◌, nat_lt, nat_le, decimal, flat_map}
 use Rattle.std.specs.List.{list_all}
-use Rattle.std.proofs.lemmas.Bool.{cases_Bool}
-use Rattle.std.proofs.lemmas.Bool.Decides.{nat_tests}
+use Rattle.std.proofs.lemmas.Bool.{cases_Bool, and_from, or_from, eq-eqb, leb-true, lt-leb, ltb-true, le-ltb}
 use Rattle.std.proofs.lemmas.List.Folds.{list_all-append}
 use Rattle.step_tables.specs.declared.faults.FaultKind.TheVariants as kinds
 use Rattle.step_tables.specs.declared.tables.TaskDef.{TaskDef}
@@ -20,11 +19,11 @@ use Rattle.step_tables.specs.Limits.{newest, limits_of}
 use Rattle.text_lines.proofs.LimitLaws.{short_text}
 use Rattle.step_tables.specs.Judging.{value, least, most, outside, event_of, with_event, with_line, with_setting, nothing, script_from, setting_at, script_within, script_of, version_of, version_in, first_line, scripts, script_read}
 use Rattle.step_tables.proofs.Steps.{judged}
-use Rattle.step_tables.proofs.RowsOf.{both, first_of_both, second_of_both}
+use Rattle.step_tables.proofs.RowsOf.{first_of_both, second_of_both}
 use Rattle.step_tables.proofs.Valid.{last_from, last_is}
 use Rattle.step_tables.proofs.WordsAgain.{are_words, number_is_word, is_number, value_again, first_piece}
 use Rattle.step_tables.proofs.Bounds.{InRange, in_range, inside_small, within_outside, start_inside, workers_small, rounds_small}
-use Rattle.step_tables.proofs.RunAgain.{bytes_of, Passes, Runs, runs_to, runs_then, no_kind, both_false, run_lines, lines_some, setting_step, header_again, header_step, cut_lines, setting_words}
+use Rattle.step_tables.proofs.RunAgain.{bytes_of, Passes, Runs, runs_to, runs_then, no_kind, run_lines, lines_some, setting_step, header_again, header_step, cut_lines, setting_words}
 use Rattle.step_tables.proofs.TasksAgain.{base, lens, after_tasks, tasks_run}
 use Rattle.step_tables.proofs.RowsAgain.{order_fine, order_known, order_are_words, action_again}
 use Rattle.step_tables.proofs.Length.{whole_text}
@@ -33,21 +32,6 @@ use Rattle.step_tables.proofs.RowsRun.{Fine, between, rows_run}
 -- all tasks are read, and these events
 abbrev with_events : Script → List Event → Progress
 with_events s es = base s s.tasks (lens s.tasks) (length s.tasks) es
-
-equal_test : (a b : ℕ) → a ≡ b → (a == b) ≡ true
-equal_test a b e = grind (arith, nat_tests)
-
-below_test : (a b : ℕ) → a < b → nat_le b a ≡ false
-below_test a b e = grind (arith, nat_tests)
-
-not_less : (a b : ℕ) → b ≤ a → nat_lt a b ≡ false
-not_less a b e = grind (arith, nat_tests)
-
-test_below : (a b : ℕ) → nat_lt a b ≡ true → a < b
-test_below a b e = grind (arith, nat_tests)
-
-test_at_most : (a b : ℕ) → nat_le a b ≡ true → a ≤ b
-test_at_most a b e = grind (arith, nat_tests)
 
 -- an event's line passes, and adds its event
 event_step : (s : Script) (es : List Event) (e : Event) → Fine s.tasks → s.rounds < 10 ^ 10 → is_sound_action (length s.tasks) e.action ≡ true → e.round < s.rounds → last_from 0 es ≤ e.round → length es < (limits_of s.version).events
@@ -58,14 +42,14 @@ event_step s es e fine rounds sound below rises few =
       record {
         unended = refl;
         body = order_fine s.tasks e.action fine.fine sound;
-        words = both true _ refl (both _ _ (number_is_word e.round small) (order_are_words s.tasks e.action fine.fine sound));
-        comes = equal_test (length s.tasks) (length s.tasks) refl;
+        words = and_from true _ refl (and_from _ _ (number_is_word e.round small) (order_are_words s.tasks e.action fine.fine sound));
+        comes = eq-eqb (length s.tasks) (length s.tasks) refl;
         good =
             no_kind _ kinds.Number _ (is_number e.round small)
             (no_kind _ kinds.UnknownTask _ (order_known s.tasks e.action fine.distinct sound)
-            (no_kind _ kinds.LimitPassed None (both_false (nat_le s.rounds (value (decimal e.round))) _ (ap (nat_le s.rounds) (value_again e.round small) ∙ below_test e.round s.rounds below)
-            (both_false (nat_le (limits_of s.version).events (length es)) _ (below_test (length es) (limits_of s.version).events few)
-            ((λ i. nat_lt (value_again e.round small i) (last_is 0 es i)) ∙ not_less e.round (last_from 0 es) rises))) refl));
+            (no_kind _ kinds.LimitPassed None (or_from (nat_le s.rounds (value (decimal e.round))) _ (ap (nat_le s.rounds) (value_again e.round small) ∙ lt-leb s.rounds e.round below)
+            (or_from (nat_le (limits_of s.version).events (length es)) _ (lt-leb (limits_of s.version).events (length es) few)
+            ((λ i. nat_lt (value_again e.round small i) (last_is 0 es i)) ∙ le-ltb e.round (last_from 0 es) rises))) refl));
       },
       λ i. base s s.tasks (lens s.tasks) (length s.tasks) (es ++ record { round = value_again e.round small i; action = action_again s.tasks e.action fine.distinct sound i } ∷ []),
     )
@@ -80,7 +64,7 @@ events_run s es [] fine rounds sound rises few = ap (with_events s) (sym (append
 events_run s es (e ∷ more) fine rounds sound rises few =
     let long : length (es ++ e ∷ more) ≡ length es + suc (length more) = length-append es (e ∷ more) in
     let later = second_of_both (nat_le (last_from 0 es) e.round) _ rises in
-    let step = event_step s es e fine rounds (first_of_both (is_sound_action (length s.tasks) e.action) _ sound) (test_below e.round s.rounds (first_of_both (nat_lt e.round s.rounds) _ later)) (test_at_most (last_from 0 es) e.round (first_of_both (nat_le (last_from 0 es) e.round) _ rises)) (omega arith) in
+    let step = event_step s es e fine rounds (first_of_both (is_sound_action (length s.tasks) e.action) _ sound) (ltb-true e.round s.rounds (first_of_both (nat_lt e.round s.rounds) _ later)) (leb-true (last_from 0 es) e.round (first_of_both (nat_le (last_from 0 es) e.round) _ rises)) (omega arith) in
     let next : (es ++ e ∷ []) ++ more ≡ es ++ e ∷ more = append_assoc es (e ∷ []) more in (
       step.0,
       subst (λ p. Runs p (map (event_said (names_of s.tasks)) more) (with_events s (es ++ e ∷ more))) (sym step.1)
@@ -92,12 +76,12 @@ events_run s es (e ∷ more) fine rounds sound rises few =
 -- the last line
 end_run : (s : Script) → Runs (with_events s s.events) (ends ∷ []) (record (with_events s s.events) { ended = true })
 unfolding with_line
-end_run s = (record { unended = refl; body = tt; words = refl; comes = equal_test (length s.tasks) (length s.tasks) refl; good = refl }, refl)
+end_run s = (record { unended = refl; body = tt; words = refl; comes = eq-eqb (length s.tasks) (length s.tasks) refl; good = refl }, refl)
 
 -- the names of tasks in range
 names_fine : (workers n : ℕ) (ts : List TaskDef) → list_all (is_sound_task workers n) ts ≡ true → list_all is_name (names_of ts) ≡ true
 names_fine workers n [] e = refl
-names_fine workers n (t ∷ ts) e = both _ _ (first_of_both (is_name t.name) _ (first_of_both (is_sound_task workers n t) _ e)) (names_fine workers n ts (second_of_both (is_sound_task workers n t) _ e))
+names_fine workers n (t ∷ ts) e = and_from _ _ (first_of_both (is_name t.name) _ (first_of_both (is_sound_task workers n t) _ e)) (names_fine workers n ts (second_of_both (is_sound_task workers n t) _ e))
 
 -- the lines behind the settings pass
 body_run : (s : Script) → InRange s → Runs (base s [] [] 0 []) (body_said s.tasks s.events) (record (with_events s s.events) { ended = true })
@@ -106,17 +90,17 @@ body_run s r =
     let fine : Fine s.tasks = record { distinct = r.distinct; fine = names_fine s.workers (length s.tasks) s.tasks r.tasks } in
     let none : between s s.tasks [] ≡ with_events s [] = λ i. base s (append-nil s.tasks i) (lens (append-nil s.tasks i)) (length s.tasks) [] in
     runs_then (base s [] [] 0 []) (after_tasks s s.tasks) (record (with_events s s.events) { ended = true }) (map (λ t. task_said t (length t.rows)) s.tasks) _
-    (tasks_run s (length s.tasks) [] s.tasks (workers_small _ _ _ _ _ _ r.settings) r.tasks r.distinct (test_at_most (length s.tasks) (limits_of s.version).tasks r.few))
+    (tasks_run s (length s.tasks) [] s.tasks (workers_small _ _ _ _ _ _ r.settings) r.tasks r.distinct (leb-true (length s.tasks) (limits_of s.version).tasks r.few))
     (runs_then (after_tasks s s.tasks) (with_events s []) (record (with_events s s.events) { ended = true }) (flat_map (λ t. rows_said (names_of s.tasks) t.name 0 t.rows) s.tasks) _
     (runs_to (after_tasks s s.tasks) (between s s.tasks []) (with_events s []) (flat_map (λ t. rows_said (names_of s.tasks) t.name 0 t.rows) s.tasks) (rows_run s s.tasks [] s.tasks refl fine r.tasks) none)
     (runs_then (with_events s []) (with_events s s.events) (record (with_events s s.events) { ended = true }) (map (event_said (names_of s.tasks)) s.events) (ends ∷ [])
-    (events_run s [] s.events fine (rounds_small _ _ _ _ _ _ r.settings) r.actions r.rising (test_at_most (length s.events) (limits_of s.version).events r.few_events))
+    (events_run s [] s.events fine (rounds_small _ _ _ _ _ _ r.settings) r.actions r.rising (leb-true (length s.events) (limits_of s.version).events r.few_events))
     (end_run s)))
 
 -- lines that pass have words
 runs_words : (p q : Progress) (xs : List Said) → Runs p xs q → list_all (λ x. are_words (said_words x)) xs ≡ true
 runs_words p q [] r = refl
-runs_words p q (x ∷ xs) r = both _ _ r.0.words (runs_words (with_line p x) q xs r.1)
+runs_words p q (x ∷ xs) r = and_from _ _ r.0.words (runs_words (with_line p x) q xs r.1)
 
 -- the settings of a script in range are not outside theirs
 record Inside (s : Script) : Type 0 where
@@ -134,9 +118,6 @@ inside s r = let are = r.settings in record {
   step = within_outside 1 (limits_of s.version).step s.step are.step;
   rounds = within_outside 1 (limits_of s.version).rounds s.rounds are.rounds;
 }
-
-some_lines : (line : List ℕ) (lines : List (List ℕ)) → is_empty (line ∷ lines) ≡ false
-some_lines line lines = refl
 
 -- there is no line feed in the first line
 header_line : (version : ℕ) → list_all (λ b. not (b == 10)) (header_of version) ≡ true
@@ -170,11 +151,11 @@ settings_again s rest r some =
 settings_are_words : (s : Script) → InRange s → list_all (λ x. are_words (said_words x)) (settings_said s) ≡ true
 settings_are_words s r =
     let of = inside s r in
-    both (are_words (said_words (sets Workers (decimal s.workers)))) _ (word Workers s.workers of.workers)
-    (both (are_words (said_words (sets Depth (decimal s.depth)))) _ (word Depth s.depth of.depth)
-    (both (are_words (said_words (sets Start (decimal s.start)))) _ (word Start s.start of.start)
-    (both (are_words (said_words (sets Step (decimal s.step)))) _ (word Step s.step of.step)
-    (both (are_words (said_words (sets Rounds (decimal s.rounds)))) true (word Rounds s.rounds of.rounds) refl))))
+    and_from (are_words (said_words (sets Workers (decimal s.workers)))) _ (word Workers s.workers of.workers)
+    (and_from (are_words (said_words (sets Depth (decimal s.depth)))) _ (word Depth s.depth of.depth)
+    (and_from (are_words (said_words (sets Start (decimal s.start)))) _ (word Start s.start of.start)
+    (and_from (are_words (said_words (sets Step (decimal s.step)))) _ (word Step s.step of.step)
+    (and_from (are_words (said_words (sets Rounds (decimal s.rounds)))) true (word Rounds s.rounds of.rounds) refl))))
   where
     word : (setting : Setting) (n : ℕ) → outside (least setting) (most (limits_of s.version) setting) n ≡ false → are_words (said_words (sets setting (decimal n))) ≡ true
     word setting n e = setting_words setting n (inside_small s.version setting n e)
@@ -186,7 +167,7 @@ text_lines s r =
     first_piece 10 (header_of s.version) (lines_text (settings_said s ++ body_said s.tasks s.events)) (header_line s.version)
     ∙ ap (λ ls. header_of s.version ∷ ls) (cut_lines (settings_said s ++ body_said s.tasks s.events)
     (list_all-append (λ x. are_words (said_words x)) (settings_said s) (body_said s.tasks s.events)
-    ∙ both _ _ (settings_are_words s r) (runs_words (base s [] [] 0 []) (record (with_events s s.events) { ended = true }) (body_said s.tasks s.events) (body_run s r))))
+    ∙ and_from _ _ (settings_are_words s r) (runs_words (base s [] [] 0 []) (record (with_events s s.events) { ended = true }) (body_said s.tasks s.events) (body_run s r))))
 
 judged_again : (s : Script) → InRange s → judged None 1 nothing (pieces 10 (script_text s)) ≡ Ok s
 unfolding script_from

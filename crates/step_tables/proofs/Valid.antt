@@ -2,7 +2,7 @@
 use Rattle.std.proofs.Common.{◌≡◌, ℕ, suc, zero, ◌+◌, ◌-◌, ◌≤◌, ◌<◌, Bool, true, false, cond, List, [], ◌∷◌, ◌++◌, map, length, set, refl, ap, sym, ◌∙◌, arith, subst, length-append}
 use Rattle.std.specs.Prelude.{Option, Some, None, option_map, is_none, unwrap_or, bytes_eq, not, ◌||◌, ◌==◌, nat_le, nat_lt, slice_get, if◌then◌else◌}
 use Rattle.std.specs.List.{list_all, list_any, position_or_len}
-use Rattle.std.proofs.lemmas.Bool.{eqb-true}
+use Rattle.std.proofs.lemmas.Bool.{eqb-true, and_from, or_parts, not-true, eq-eqb, le-leb, lt-ltb, both_ways}
 use Rattle.std.proofs.lemmas.Bool.Decides.{nat_tests}
 use Rattle.std.proofs.lemmas.List.{map-append, length-set}
 use Rattle.std.proofs.lemmas.List.Folds.{list_all-append}
@@ -18,9 +18,9 @@ use Rattle.step_tables.specs.Limits.{limits_of}
 use Rattle.step_tables.specs.Judging.{may_come, all_rows, due, promised, rows_made, value, most, unknown, named, with_task, with_row, with_event, with_line, with_row_at_end, task_of, row_of, event_of, script_from}
 use Rattle.step_tables.proofs.Bounds.{AreSettings}
 use Rattle.step_tables.proofs.Back.{IsBody, AreOrders, IsOrder}
-use Rattle.step_tables.proofs.Good.{neither, GoodRow, good_row, GoodEvent, good_event, GoodTask, good_task}
+use Rattle.step_tables.proofs.Good.{GoodRow, good_row, GoodEvent, good_event, GoodTask, good_task}
 use Rattle.step_tables.proofs.Steps.{Adds}
-use Rattle.step_tables.proofs.RowsOf.{both, first_of_both, second_of_both, Fresh, Filled, filled_from_fresh, fresh_from_filled, fresh_more, filled_more, all_filled}
+use Rattle.step_tables.proofs.RowsOf.{first_of_both, second_of_both, Fresh, Filled, filled_from_fresh, fresh_from_filled, fresh_more, filled_more, all_filled}
 use Rattle.step_tables.proofs.SoundParts.{sound_row, sound_task, sound_event}
 
 pub record Valid (p : Progress) : Type 0 where
@@ -34,20 +34,9 @@ pub record Valid (p : Progress) : Type 0 where
   pub whole : is_empty p.events ≡ false → p.at ≡ length p.tasks
   pub done : p.ended ≡ true → p.at ≡ length p.tasks
 
-pub test_is : (a b : ℕ) → (a == b) ≡ true → a ≡ b
-test_is a b e = eqb-true a b e
-
 pub empty_list : {A : Type 0} (xs : List A) → is_empty xs ≡ true → xs ≡ []
 empty_list [] e = refl
 empty_list (x ∷ xs) e = absurd (cc)
-
-pub clash : (b : Bool) → b ≡ true → b ≡ false → ⊥
-clash true e f = cc
-clash false e f = cc
-
-pub not_true : (b : Bool) → not b ≡ true → b ≡ false
-not_true true e = absurd (cc)
-not_true false e = refl
 
 at_most_more : (n most : ℕ) → nat_le most n ≡ false → nat_le (n + 1) most ≡ true
 at_most_more n most e = grind (arith, nat_tests)
@@ -75,12 +64,12 @@ none_named tasks name e = far tasks (missing (nat_lt (position_or_len (λ t. byt
 distinct_more : (names : List Word) (name : Word) → distinct_names names ≡ true → list_any (λ other. bytes_eq other name) names ≡ false → distinct_names (names ++ name ∷ []) ≡ true
 distinct_more [] name d e = refl
 distinct_more (n ∷ ns) name d e =
-    let (first, others) = neither _ _ e in
-    both _ _ (ap not (any_more (λ other. bytes_eq n other) ns name (not_true _ (first_of_both _ _ d)) first)) (distinct_more ns name (second_of_both _ _ d) others)
+    let (first, others) = or_parts _ _ e in
+    and_from _ _ (ap not (any_more (λ other. bytes_eq n other) ns name (not-true _ (first_of_both _ _ d)) first)) (distinct_more ns name (second_of_both _ _ d) others)
   where
     any_more : (test : Word → Bool) (ws : List Word) (w : Word) → list_any test ws ≡ false → test w ≡ false → list_any test (ws ++ w ∷ []) ≡ false
     any_more test [] w none is = ap (λ b. b || false) is
-    any_more test (v ∷ ws) w none is = let (a, b) = neither _ _ none in ap (λ c. c || list_any test (ws ++ w ∷ [])) a ∙ any_more test ws w b is
+    any_more test (v ∷ ws) w none is = let (a, b) = or_parts _ _ none in ap (λ c. c || list_any test (ws ++ w ∷ [])) a ∙ any_more test ws w b is
 
 -- a change that keeps what is seen
 pub map_set : {A B : Type 0} (f : A → B) (xs : List A) (i : ℕ) (x y : A) → slice_get xs i ≡ Some x → f y ≡ f x → map f (set xs i y) ≡ map f xs
@@ -114,15 +103,9 @@ last_is from (e ∷ f ∷ es) =
 
 -- one event more
 rising_more : (from rounds : ℕ) (es : List Event) (e : Event) → rising_below from rounds es ≡ true → last_from from es ≤ e.round → e.round < rounds → rising_below from rounds (es ++ e ∷ []) ≡ true
-rising_more from rounds [] e r low high = both _ _ (le from e.round low) (both _ _ (lt e.round rounds high) refl)
-  where
-    le : (a b : ℕ) → a ≤ b → nat_le a b ≡ true
-    le a b h = grind (arith, nat_tests)
-
-    lt : (a b : ℕ) → a < b → nat_lt a b ≡ true
-    lt a b h = grind (arith, nat_tests)
+rising_more from rounds [] e r low high = and_from _ _ (le-leb from e.round low) (and_from _ _ (lt-ltb e.round rounds high) refl)
 rising_more from rounds (f ∷ es) e r low high =
-    both _ _ (first_of_both _ _ r) (both _ _ (first_of_both _ _ (second_of_both _ _ r)) (rising_more f.round rounds es e (second_of_both _ _ (second_of_both _ _ r)) low high))
+    and_from _ _ (first_of_both _ _ r) (and_from _ _ (first_of_both _ _ (second_of_both _ _ r)) (rising_more f.round rounds es e (second_of_both _ _ (second_of_both _ _ r)) low high))
 
 pub task_rows : (l : TaskLine) → (task_of l).rows ≡ []
 unfolding task_of
@@ -145,8 +128,8 @@ unfolding with_task
 valid_task p line name unended comes good v =
     let none_started = first_of_both _ _ comes in
     let no_events : p.events ≡ [] = empty_list p.events (second_of_both _ _ comes) in
-    let at_start : p.at ≡ 0 = test_is p.at 0 (first_of_both _ _ none_started) in
-    let none_made : rows_made (slice_get p.tasks p.at) ≡ 0 = test_is _ 0 (second_of_both _ _ none_started) in
+    let at_start : p.at ≡ 0 = eqb-true p.at 0 (first_of_both _ _ none_started) in
+    let none_made : rows_made (slice_get p.tasks p.at) ≡ 0 = eqb-true _ 0 (second_of_both _ _ none_started) in
     let fresh : Fresh p.workers p.tasks p.counts = fresh_from_filled p.workers (length p.tasks) p.tasks p.counts
     (subst (λ k. Filled p.workers (length p.tasks) k p.tasks p.counts) at_start v.tables) (ap (λ k. rows_made (slice_get p.tasks k)) (sym at_start) ∙ none_made) in
     let long : length (p.tasks ++ task_of line ∷ []) ≡ length p.tasks + 1 = length-append p.tasks (task_of line ∷ []) in
@@ -159,8 +142,8 @@ valid_task p line name unended comes good v =
       few_events = v.few_events;
       actions = ap (λ es. list_all (λ e. is_sound_action (length (p.tasks ++ task_of line ∷ [])) e.action) es) no_events;
       rising = v.rising;
-      whole = λ some. absurd (clash (is_empty p.events) (second_of_both _ _ comes) some);
-      done = λ ended. absurd (clash p.ended ended unended);
+      whole = λ some. absurd (both_ways (is_empty p.events) some (second_of_both _ _ comes));
+      done = λ ended. absurd (both_ways p.ended unended ended);
     }
 
 valid_row : (p : Progress) (line : RowLine) → AreOrders line.orders → p.ended ≡ false → may_come p (row line) ≡ true → GoodRow p line → Valid p → Valid (with_row p (due p) (row_of p.tasks line))
@@ -177,12 +160,9 @@ valid_row p line are unended comes good v = subst (λ d. Valid (with_row p d (ro
       few_events = v.few_events;
       actions = ap (λ n. list_all (λ e. is_sound_action n e.action) p.events) long ∙ v.actions;
       rising = v.rising;
-      whole = λ some. absurd (clash (all_rows p) (is_test p.at (length p.tasks) (v.whole some)) (not_true _ comes));
-      done = λ ended. absurd (clash p.ended ended unended);
+      whole = λ some. absurd (both_ways (all_rows p) (not-true _ comes) (eq-eqb p.at (length p.tasks) (v.whole some)));
+      done = λ ended. absurd (both_ways p.ended unended ended);
     })
-  where
-    is_test : (a b : ℕ) → a ≡ b → (a == b) ≡ true
-    is_test a b e = grind (arith, nat_tests)
 
 valid_event : (p : Progress) (line : EventLine) → IsOrder line.order → p.ended ≡ false → may_come p (event line) ≡ true → GoodEvent p line → Valid p → Valid (with_event p line)
 unfolding with_event
@@ -195,10 +175,10 @@ valid_event p line is unended comes good v =
       tables = v.tables;
       names = v.names;
       few_events = ap (λ n. nat_le n (limits_of p.version).events) long ∙ at_most_more (length p.events) (limits_of p.version).events good.few;
-      actions = list_all-append (λ e. is_sound_action (length p.tasks) e.action) p.events (event_of p.tasks line ∷ []) ∙ both _ _ v.actions (both _ true (sound_event p line good is) refl);
+      actions = list_all-append (λ e. is_sound_action (length p.tasks) e.action) p.events (event_of p.tasks line ∷ []) ∙ and_from _ _ v.actions (and_from _ true (sound_event p line good is) refl);
       rising = rising_more 0 p.rounds p.events (event_of p.tasks line) v.rising (subst (λ n. last_from 0 p.events ≤ n) (sym (event_round p.tasks line)) rising) (subst (λ n. n < p.rounds) (sym (event_round p.tasks line)) good.round);
-      whole = λ some. test_is p.at (length p.tasks) comes;
-      done = λ ended. absurd (clash p.ended ended unended);
+      whole = λ some. eqb-true p.at (length p.tasks) comes;
+      done = λ ended. absurd (both_ways p.ended unended ended);
     }
 
 -- a line more
@@ -217,7 +197,7 @@ valid_step p q ends body unended a v = subst Valid a.added (record {
   actions = v.actions;
   rising = v.rising;
   whole = v.whole;
-  done = λ ended. test_is p.at (length p.tasks) a.comes;
+  done = λ ended. eqb-true p.at (length p.tasks) a.comes;
 })
 
 -- the end
@@ -225,6 +205,6 @@ pub valid_end : (p : Progress) → Valid p → p.ended ≡ true → is_sound (sc
 unfolding is_sound script_from
 valid_end p v ended =
     let of = v.settings in
-    both _ _ of.version (both _ _ of.workers (both _ _ of.depth (both _ _ of.start (both _ _ of.step (both _ _ of.rounds (both _ _ v.few
-    (both _ _ (all_filled p.workers (length p.tasks) p.at p.tasks p.counts v.tables (v.done ended))
-    (both _ _ v.names (both _ _ v.few_events (both _ _ v.actions v.rising))))))))))
+    and_from _ _ of.version (and_from _ _ of.workers (and_from _ _ of.depth (and_from _ _ of.start (and_from _ _ of.step (and_from _ _ of.rounds (and_from _ _ v.few
+    (and_from _ _ (all_filled p.workers (length p.tasks) p.at p.tasks p.counts v.tables (v.done ended))
+    (and_from _ _ v.names (and_from _ _ v.few_events (and_from _ _ v.actions v.rising))))))))))

@@ -1,5 +1,6 @@
 -- A script, line by line: the five settings, then the other lines.
 use Rattle.std.proofs.Common.{◌≡◌, ℕ, suc, zero, ◌+◌, ◌-◌, ◌≤◌, ◌<◌, Bool, true, false, List, [], ◌∷◌, length, refl, ap, sym, ◌∙◌, arith, inl, inr}
+use Rattle.std.proofs.lemmas.Bool.{both_ways}
 use Rattle.std.specs.Prelude.{Option, Some, None, Result, Ok, Err, slice_get, if◌then◌else◌}
 use Rattle.step_tables.specs.declared.faults.FaultKind.{FaultKind}
 use Rattle.step_tables.specs.declared.tables.Script.{Script}
@@ -82,16 +83,8 @@ pub record NextLine (long : Option ℕ) (n : ℕ) (p : Progress) (lines : List (
   pub one : OneLine long n p line rest s
 
 pub next_back : (long : Option ℕ) (n : ℕ) (p : Progress) (lines : List (List ℕ)) (s : Script) → p.ended ≡ false → judged long n p lines ≡ Ok s → NextLine long n p lines s
-next_back long n p [] s unended e = absurd (let is = nil_back long n p s e in not_both p.ended is.ended unended)
-  where
-    not_both : (b : Bool) → b ≡ true → b ≡ false → ⊥
-    not_both true h k = cc
-    not_both false h k = cc
-next_back long n p (line ∷ []) s unended e = absurd (let is = last_back long n p line s e in not_both p.ended is.ended unended)
-  where
-    not_both : (b : Bool) → b ≡ true → b ≡ false → ⊥
-    not_both true h k = cc
-    not_both false h k = cc
+next_back long n p [] s unended e = absurd (let is = nil_back long n p s e in both_ways p.ended unended is.ended)
+next_back long n p (line ∷ []) s unended e = absurd (let is = last_back long n p line s e in both_ways p.ended unended is.ended)
 next_back long n p (line ∷ next ∷ lines) s unended e = record { line = line; rest = next ∷ lines; cut = refl; one = line_back long n p line next lines s e }
 
 -- what the line of a setting says

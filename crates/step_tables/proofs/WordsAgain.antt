@@ -15,10 +15,10 @@ use Rattle.step_tables.specs.Words.{Word, ◌>>=◌, only_if, pieces, is_empty, 
 use Rattle.text_lines.specs.Numbers.{below_zero, signed}
 use Rattle.text_lines.proofs.NumbersAgain as numbers
 use Rattle.text_lines.proofs.ReasonsAgain as lists
-use Rattle.std.proofs.lemmas.Bool.{agree_below_at}
+use Rattle.std.proofs.lemmas.Bool.{agree_below_at, and_from}
 use Rattle.step_tables.specs.Text.{class_name, reasons_text}
 use Rattle.step_tables.specs.Judging.{value, signed_value, no_number, no_signed}
-use Rattle.step_tables.proofs.RowsOf.{both, first_of_both, second_of_both}
+use Rattle.step_tables.proofs.RowsOf.{first_of_both, second_of_both}
 
 -- a byte of a word: ASCII, no space and no line feed
 abbrev pub is_word_byte : ℕ → Bool
@@ -31,7 +31,7 @@ is_word w = not (is_empty w) && list_all is_word_byte w
 -- each element of a list passes a test that is implied
 pub all_implied : (p q : ℕ → Bool) (xs : List ℕ) → ((x : ℕ) → p x ≡ true → q x ≡ true) → list_all p xs ≡ true → list_all q xs ≡ true
 all_implied p q [] h e = refl
-all_implied p q (x ∷ xs) h e = both _ _ (h x (first_of_both _ _ e)) (all_implied p q xs h (second_of_both _ _ e))
+all_implied p q (x ∷ xs) h e = and_from _ _ (h x (first_of_both _ _ e)) (all_implied p q xs h (second_of_both _ _ e))
 
 -- digits
 digit_value_small : (c : ℕ) → digit_value c < 10 → is_ascii_digit c ≡ true
@@ -39,7 +39,7 @@ digit_value_small c h = grind (arith, nat_tests)
 
 pub digits_test : (ds : List ℕ) → AllDigits 10 ds → list_all is_ascii_digit ds ≡ true
 digits_test [] a = refl
-digits_test (d ∷ ds) a = both _ _ (digit_value_small d a.0) (digits_test ds a.1)
+digits_test (d ∷ ds) a = and_from _ _ (digit_value_small d a.0) (digits_test ds a.1)
 
 own_digits : (n : ℕ) → n < 10 ^ 10 → list_all is_ascii_digit (decimal n) ≡ true
 own_digits n h = digits_test (decimal n) (digits_decimal (numerals_by_value (AllDigits 10) tells_digits) n (omega arith))
@@ -96,7 +96,7 @@ some_bytes [] h = absurd (omega arith)
 some_bytes (b ∷ w) h = refl
 
 pub number_is_word : (n : ℕ) → n < 10 ^ 10 → is_word (decimal n) ≡ true
-number_is_word n h = both _ _ (some_bytes (decimal n) (decimal_nonempty n (omega arith))) (all_implied is_ascii_digit is_word_byte (decimal n) digit_is_word (own_digits n h))
+number_is_word n h = and_from _ _ (some_bytes (decimal n) (decimal_nonempty n (omega arith))) (all_implied is_ascii_digit is_word_byte (decimal n) digit_is_word (own_digits n h))
 
 pub signed_is_word : (z : ℤ) → size z < 10 ^ 10 → is_word (signed_decimal z) ≡ true
 signed_is_word (pos n) h = number_is_word n h
@@ -113,7 +113,7 @@ pub name_is_word : (w : Word) → is_name w ≡ true → is_word w ≡ true
 unfolding is_name
 name_is_word [] e = absurd (cc)
 name_is_word (c ∷ cs) e =
-    both (is_word_byte c) _ (letter_is_word c (first_of_both _ _ e)) (all_implied is_name_byte is_word_byte cs name_byte_is_word (second_of_both (nat_le (length cs) 15) _ (second_of_both (is_ascii_lowercase c) _ e)))
+    and_from (is_word_byte c) _ (letter_is_word c (first_of_both _ _ e)) (all_implied is_name_byte is_word_byte cs name_byte_is_word (second_of_both (nat_le (length cs) 15) _ (second_of_both (is_ascii_lowercase c) _ e)))
 
 -- a set of reasons is read as it was written
 pub reasons_again : (k : ℕ) → 0 < k → k < 128 → reasons_of (reasons_text k) ≡ Some k
@@ -197,7 +197,7 @@ words_pass test [] space implied e = refl
 words_pass test (w ∷ []) space implied e = all_implied is_word_byte test w implied (word_bytes w (first_of_both _ _ e))
 words_pass test (w ∷ v ∷ ws) space implied e =
     list_all-append test w (32 ∷ join_with_byte 32 (v ∷ ws))
-    ∙ both _ _ (all_implied is_word_byte test w implied (word_bytes w (first_of_both _ _ e))) (both (test 32) _ space (words_pass test (v ∷ ws) space implied (second_of_both (is_word w) _ e)))
+    ∙ and_from _ _ (all_implied is_word_byte test w implied (word_bytes w (first_of_both _ _ e))) (and_from (test 32) _ space (words_pass test (v ∷ ws) space implied (second_of_both (is_word w) _ e)))
 
 none_empty : (ws : List Word) → are_words ws ≡ true → list_any is_empty ws ≡ false
 none_empty [] e = refl
@@ -214,7 +214,7 @@ words_again w ws e =
     let cut = words_cut w ws e in
     let ascii = words_pass (λ b. nat_lt b 128) (w ∷ ws) refl (λ b h. first_of_both _ _ h) e in
     let whole : not (list_any is_empty (pieces 32 (join_with_byte 32 (w ∷ ws)))) ≡ true = ap (λ ps. not (list_any is_empty ps)) cut ∙ ap not (none_empty (w ∷ ws) e) in
-    λ i. only_if (both _ _ ascii whole i) (cut i)
+    λ i. only_if (and_from _ _ ascii whole i) (cut i)
 
 -- and have no line feed
 pub words_one_line : (ws : List Word) → are_words ws ≡ true → list_all (λ b. not (b == 10)) (join_with_byte 32 ws) ≡ true

@@ -1,14 +1,15 @@
+use Rattle.std.proofs.lemmas.Bool.{leb-false}
 use Rattle.std.proofs.Common.{◌≡◌, length, None, ap, arith, sym, subst}
 use Rattle.step_tables.specs.Judging.{named, task_of}
 use Rattle.step_tables.specs.Views.{task_view}
 use Rattle.step_tables.proofs.Bounds.{tasks_small}
-use Rattle.step_tables.proofs.Good.{good_task, good_name, not_le}
+use Rattle.step_tables.proofs.Good.{good_task, good_name}
 use Rattle.step_tables.proofs.progress.Progress.add_task.Goals as goal
 
 pub push-requires-clause-few : goal.push-requires-clause-few
 push-requires-clause-few c =
     let p = c.args.self.now in
-    let room = not_le _ (length p.tasks) (good_task p (task_view c.args.line.now) c.requires).few in
+    let room = leb-false _ (length p.tasks) (good_task p (task_view c.args.line.now) c.requires).few in
     omega (arith, room, tasks_small p.version)
 
 pub push-requires-clause-new : goal.push-requires-clause-new
