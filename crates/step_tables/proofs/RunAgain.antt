@@ -1,5 +1,5 @@
 -- Lines that pass are taken one after another.
-use Rattle.std.proofs.Common.{◌≡◌, ℕ, ◌+◌, ◌-◌, ◌^◌, ◌<◌, Bool, true, false, cond, List, [], ◌∷◌, ◌++◌, map, refl, ap, sym, ◌∙◌, arith, subst, append_assoc, inl, inr, eqb-true}
+use Rattle.std.proofs.Common.{◌≡◌, ℕ, ◌+◌, ◌-◌, ◌^◌, ◌<◌, Bool, true, false, cond, List, [], ◌∷◌, ◌++◌, map, refl, ap, sym, ◌∙◌, arith, subst, inl, inr, eqb-true}
 use Rattle.std.specs.Prelude.{Option, Some, None, Ok, Err, ◌==◌, decimal}
 use Rattle.std.specs.List.{join_with_byte, list_all}
 use Rattle.std.proofs.lemmas.Bool.{cases_Bool, and_from, cond-true, cond-false}
@@ -11,7 +11,7 @@ use Rattle.step_tables.specs.declared.shapes.Setting.{Setting}
 use Rattle.step_tables.specs.declared.shapes.Setting.TheVariants.{Workers, Depth, Start, Step, Rounds}
 use Rattle.step_tables.specs.Words.{Word, ◌>>=◌, pieces, is_empty, words_of}
 use Rattle.step_tables.specs.Shapes.{Said, sets, task, row, event, ends, setting_name}
-use Rattle.step_tables.specs.Text.{header_of, said_words, lines_text}
+use Rattle.step_tables.specs.Text.{header_of, said_words, line_text, lines_text}
 use Rattle.step_tables.specs.Limits.{newest, limits_of}
 use Rattle.text_lines.specs.Lines.{at_line, line_taken, closed, folded}
 use Rattle.step_tables.specs.Judging.{version_of, judge_header, first_fault, tests, may_come, outside, least, most, nothing, with_setting, with_line, judge_tested, judge_said, setting_at, said_in, said_of, judge, script_from, scripts, script_read}
@@ -20,7 +20,7 @@ use Rattle.step_tables.proofs.Back.{IsBody}
 use Rattle.step_tables.proofs.Steps.{judged, judged_more}
 use Rattle.step_tables.proofs.Walk.{get_past}
 use Rattle.step_tables.proofs.RowsOf.{first_of_both, second_of_both}
-use Rattle.step_tables.proofs.WordsAgain.{is_word, are_words, words_again, words_one_line, first_piece, number_is_word, is_number, value_again}
+use Rattle.step_tables.proofs.WordsAgain.{is_word, are_words, words_again, line_cut, number_is_word, is_number, value_again}
 use Rattle.step_tables.proofs.ShapesAgain.{body_again, setting_again}
 
 -- a line's bytes, without the line feed
@@ -150,6 +150,9 @@ header_step version e lines some =
 pub cut_lines : (xs : List Said) → list_all (λ x. are_words (said_words x)) xs ≡ true → pieces 10 (lines_text xs) ≡ map bytes_of xs ++ [] ∷ []
 cut_lines [] e = refl
 cut_lines (x ∷ xs) e =
-    ap (pieces 10) (append_assoc (bytes_of x) (10 ∷ []) (lines_text xs))
-    ∙ first_piece 10 (bytes_of x) (lines_text xs) (words_one_line (said_words x) (first_of_both (are_words (said_words x)) _ e))
+    cut (said_words x) (said_some x) (first_of_both (are_words (said_words x)) _ e)
     ∙ ap (λ r. bytes_of x ∷ r) (cut_lines xs (second_of_both (are_words (said_words x)) _ e))
+  where
+    cut : (ws : List Word) → is_empty ws ≡ false → are_words ws ≡ true → pieces 10 (line_text ws ++ lines_text xs) ≡ join_with_byte 32 ws ∷ pieces 10 (lines_text xs)
+    cut [] some words = absurd (cc)
+    cut (w ∷ ws) some words = line_cut w ws (lines_text xs) words

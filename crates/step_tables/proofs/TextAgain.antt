@@ -1,6 +1,6 @@
 -- The text of a script in range is read as that script.
 use Rattle.std.proofs.Common.{◌≡◌, ℕ, suc, ◌+◌, ◌^◌, ◌≤◌, ◌<◌, true, false, List, [], ◌∷◌, ◌++◌, map, length, refl, ap, sym, ◌∙◌, arith, subst, append_assoc, append-nil, length-append, lit<, inl, inr}
-use Rattle.std.specs.Prelude.{unwrap_or, None, Ok, not, ◌==◌, nat_lt, nat_le, decimal, flat_map}
+use Rattle.std.specs.Prelude.{unwrap_or, codes, None, Ok, ◌==◌, nat_lt, nat_le, decimal, flat_map}
 use Rattle.std.specs.List.{list_all}
 use Rattle.std.proofs.lemmas.Bool.{cases_Bool, and_from, or_from, eq-eqb, leb-true, lt-leb, ltb-true, le-ltb}
 use Rattle.std.proofs.lemmas.List.Folds.{list_all-append}
@@ -21,7 +21,7 @@ use Rattle.step_tables.specs.Judging.{value, least, most, outside, event_of, wit
 use Rattle.step_tables.proofs.Steps.{judged}
 use Rattle.step_tables.proofs.RowsOf.{first_of_both, second_of_both}
 use Rattle.step_tables.proofs.Valid.{last_from, last_is}
-use Rattle.step_tables.proofs.WordsAgain.{are_words, number_is_word, is_number, value_again, first_piece}
+use Rattle.step_tables.proofs.WordsAgain.{are_words, number_is_word, is_number, value_again, line_cut}
 use Rattle.step_tables.proofs.Bounds.{InRange, in_range, inside_small, within_outside, start_inside, workers_small, rounds_small}
 use Rattle.step_tables.proofs.RunAgain.{bytes_of, Passes, Runs, runs_to, runs_then, no_kind, run_lines, lines_some, setting_step, header_again, header_step, cut_lines, setting_words}
 use Rattle.step_tables.proofs.TasksAgain.{base, lens, after_tasks, tasks_run}
@@ -119,10 +119,13 @@ inside s r = let are = r.settings in record {
   rounds = within_outside 1 (limits_of s.version).rounds s.rounds are.rounds;
 }
 
--- there is no line feed in the first line
-header_line : (version : ℕ) → list_all (λ b. not (b == 10)) (header_of version) ≡ true
+-- the first line is cut off the text behind it
+header_cut : (version : ℕ) (rest : List ℕ) → pieces 10 (header_of version ++ 10 ∷ rest) ≡ header_of version ∷ pieces 10 rest
 unfolding header_of
-header_line version = elim (cases_Bool (version == 2)) [ inl k ↦ rw k refl | inr k ↦ rw k refl ]
+header_cut version rest = elim (cases_Bool (version == 2)) [
+  | inl k ↦ rw k (line_cut (codes "taskscript") (codes "2" ∷ []) rest refl)
+  | inr k ↦ rw k (line_cut (codes "taskscript") (codes "1" ∷ []) rest refl)
+]
 
 -- the lines of the settings are read as they were written
 settings_again : (s : Script) (rest : List (List ℕ)) → InRange s → is_empty rest ≡ false
@@ -164,7 +167,7 @@ settings_are_words s r =
 text_lines : (s : Script) → InRange s → pieces 10 (script_text s) ≡ header_of s.version ∷ (map bytes_of (settings_said s ++ body_said s.tasks s.events) ++ [] ∷ [])
 unfolding script_text
 text_lines s r =
-    first_piece 10 (header_of s.version) (lines_text (settings_said s ++ body_said s.tasks s.events)) (header_line s.version)
+    header_cut s.version (lines_text (settings_said s ++ body_said s.tasks s.events))
     ∙ ap (λ ls. header_of s.version ∷ ls) (cut_lines (settings_said s ++ body_said s.tasks s.events)
     (list_all-append (λ x. are_words (said_words x)) (settings_said s) (body_said s.tasks s.events)
     ∙ and_from _ _ (settings_are_words s r) (runs_words (base s [] [] 0 []) (record (with_events s s.events) { ended = true }) (body_said s.tasks s.events) (body_run s r))))

@@ -1,14 +1,12 @@
 -- From values to words, and back to the same values.
 use Rattle.std.proofs.Common.{◌≡◌, ℕ, suc, ◌^◌, ◌<◌, Bool, true, false, cond, List, [], ◌∷◌, ◌++◌, length, refl, ap, ◌∙◌, arith, lit<}
 use Rattle.std.specs.Prelude.{Option, Some, option_map, is_none, unwrap_or, not, ◌&&◌, ◌||◌, ◌==◌, nat_lt, nat_le, decimal, ℤ, pos, negsuc}
-use Rattle.std.specs.List.{list_all, list_any, join_with_byte, onto_first}
-use Rattle.std.specs.Char.{is_ascii_digit, is_ascii_lowercase, digit_value}
+use Rattle.std.specs.List.{list_all, list_any, join_with_byte}
+use Rattle.std.specs.Char.{is_ascii_digit, is_ascii_lowercase}
 use Rattle.std.specs.Fmt.{signed_decimal}
-use Rattle.std.specs.Str.Parse.{AllDigits}
 use Rattle.std.proofs.lemmas.Bool.Decides.{nat_tests}
 use Rattle.std.proofs.lemmas.List.Folds.{list_all-append}
-use Rattle.std.proofs.lemmas.Fmt.{digits_decimal, decimal_nonempty}
-use Rattle.std.proofs.lemmas.Str.Parse.{numerals_by_value, tells_digits}
+use Rattle.std.proofs.lemmas.Fmt.{decimal_nonempty}
 use Rattle.sched_base.specs.declared.names.Class.{Class}
 use Rattle.sched_base.specs.declared.names.Class.TheVariants.{Urgent, Normal, Bulk, Heavy}
 use Rattle.step_tables.specs.Words.{Word, ◌>>=◌, only_if, pieces, is_empty, words_of, number_of, signed_of, is_name_byte, is_name, reasons_of, class_of}
@@ -16,13 +14,16 @@ use Rattle.text_lines.specs.Numbers.{below_zero, signed}
 use Rattle.text_lines.proofs.NumbersAgain as numbers
 use Rattle.text_lines.proofs.ReasonsAgain as lists
 use Rattle.std.proofs.lemmas.Bool.{agree_below_at, and_from}
-use Rattle.step_tables.specs.Text.{class_name, reasons_text}
+use Rattle.text_lines.specs.Added.{spelled}
+use Rattle.text_lines.specs.Names.{plain}
+use Rattle.text_lines.proofs.Plain.{pieces_joined, pieces_spelled}
+use Rattle.step_tables.specs.Text.{class_name, reasons_text, line_text}
 use Rattle.step_tables.specs.Judging.{value, signed_value, no_number, no_signed}
 use Rattle.step_tables.proofs.RowsOf.{first_of_both, second_of_both}
 
--- a byte of a word: ASCII, no space and no line feed
+-- a byte of a word that is written: ASCII, and above a space
 abbrev pub is_word_byte : ℕ → Bool
-is_word_byte b = nat_lt b 128 && (not (b == 32) && not (b == 10))
+is_word_byte b = nat_lt 32 b && nat_lt b 128
 
 -- a word that a line can have
 abbrev pub is_word : Word → Bool
@@ -34,15 +35,8 @@ all_implied p q [] h e = refl
 all_implied p q (x ∷ xs) h e = and_from _ _ (h x (first_of_both _ _ e)) (all_implied p q xs h (second_of_both _ _ e))
 
 -- digits
-digit_value_small : (c : ℕ) → digit_value c < 10 → is_ascii_digit c ≡ true
-digit_value_small c h = grind (arith, nat_tests)
-
-pub digits_test : (ds : List ℕ) → AllDigits 10 ds → list_all is_ascii_digit ds ≡ true
-digits_test [] a = refl
-digits_test (d ∷ ds) a = and_from _ _ (digit_value_small d a.0) (digits_test ds a.1)
-
 own_digits : (n : ℕ) → n < 10 ^ 10 → list_all is_ascii_digit (decimal n) ≡ true
-own_digits n h = digits_test (decimal n) (digits_decimal (numerals_by_value (AllDigits 10) tells_digits) n (omega arith))
+own_digits n h = numbers.decimal_digits n (omega arith)
 
 -- a number of at most ten digits is read as it was written
 pub number_again : (n : ℕ) → n < 10 ^ 10 → number_of (decimal n) ≡ Some n
@@ -147,49 +141,19 @@ class_is_word Normal = refl
 class_is_word Bulk = refl
 class_is_word Heavy = refl
 
--- bytes without the one at which they are cut are one piece
-pub one_piece : (at : ℕ) (w : List ℕ) → list_all (λ b. not (b == at)) w ≡ true → pieces at w ≡ w ∷ []
-one_piece at [] e = refl
-one_piece at (x ∷ w) e = go (x == at) (first_of_both _ _ e) (one_piece at w (second_of_both (not (x == at)) _ e))
-  where
-    go : (b : Bool) → not b ≡ true → pieces at w ≡ w ∷ [] → cond b ([] ∷ pieces at w) (onto_first x (pieces at w)) ≡ (x ∷ w) ∷ []
-    go true h others = absurd (cc)
-    go false h others = ap (onto_first x) others
-
--- and so they are before the first such byte
-pub first_piece : (at : ℕ) (w rest : List ℕ) → list_all (λ b. not (b == at)) w ≡ true → pieces at (w ++ at ∷ rest) ≡ w ∷ pieces at rest
-first_piece at [] rest e = go (at == at) (same at)
-  where
-    same : (a : ℕ) → (a == a) ≡ true
-    same a = grind (arith, nat_tests)
-
-    go : (b : Bool) → b ≡ true → cond b ([] ∷ pieces at rest) (onto_first at (pieces at rest)) ≡ [] ∷ pieces at rest
-    go true h = refl
-    go false h = absurd (cc)
-first_piece at (x ∷ w) rest e = go (x == at) (first_of_both _ _ e) (first_piece at w rest (second_of_both (not (x == at)) _ e))
-  where
-    go : (b : Bool) → not b ≡ true → pieces at (w ++ at ∷ rest) ≡ w ∷ pieces at rest → cond b ([] ∷ pieces at (w ++ at ∷ rest)) (onto_first x (pieces at (w ++ at ∷ rest))) ≡ (x ∷ w) ∷ pieces at rest
-    go true h others = absurd (cc)
-    go false h others = ap (onto_first x) others
-
 -- words that a line can have
 abbrev pub are_words : List Word → Bool
 are_words ws = list_all is_word ws
 
-no_space : (b : ℕ) → is_word_byte b ≡ true → not (b == 32) ≡ true
-no_space b e = first_of_both _ _ (second_of_both (nat_lt b 128) _ e)
-
-no_feed : (b : ℕ) → is_word_byte b ≡ true → not (b == 10) ≡ true
-no_feed b e = second_of_both (not (b == 32)) _ (second_of_both (nat_lt b 128) _ e)
-
 word_bytes : (w : Word) → is_word w ≡ true → list_all is_word_byte w ≡ true
 word_bytes w e = second_of_both (not (is_empty w)) _ e
 
-words_cut : (w : Word) (ws : List Word) → are_words (w ∷ ws) ≡ true → pieces 32 (join_with_byte 32 (w ∷ ws)) ≡ w ∷ ws
-words_cut w [] e = one_piece 32 w (all_implied is_word_byte (λ b. not (b == 32)) w no_space (word_bytes w (first_of_both _ _ e)))
-words_cut w (v ∷ ws) e =
-    first_piece 32 w (join_with_byte 32 (v ∷ ws)) (all_implied is_word_byte (λ b. not (b == 32)) w no_space (word_bytes w (first_of_both _ _ e)))
-    ∙ ap (λ r. w ∷ r) (words_cut v ws (second_of_both (is_word w) _ e))
+word_plain : (w : Word) → is_word w ≡ true → plain w ≡ true
+word_plain w e = all_implied is_word_byte (nat_lt 32) w (λ b h. first_of_both _ _ h) (word_bytes w e)
+
+words_plain : (ws : List Word) → are_words ws ≡ true → list_all plain ws ≡ true
+words_plain [] e = refl
+words_plain (w ∷ ws) e = and_from _ _ (word_plain w (first_of_both _ _ e)) (words_plain ws (second_of_both (is_word w) _ e))
 
 -- a test that words pass, and the spaces between them
 words_pass : (test : ℕ → Bool) (ws : List Word) → test 32 ≡ true → ((b : ℕ) → is_word_byte b ≡ true → test b ≡ true) → are_words ws ≡ true → list_all test (join_with_byte 32 ws) ≡ true
@@ -211,11 +175,12 @@ none_empty (w ∷ ws) e = step (is_empty w) (list_any is_empty ws) (first_of_bot
 pub words_again : (w : Word) (ws : List Word) → are_words (w ∷ ws) ≡ true → words_of (join_with_byte 32 (w ∷ ws)) ≡ Some (w ∷ ws)
 unfolding words_of
 words_again w ws e =
-    let cut = words_cut w ws e in
-    let ascii = words_pass (λ b. nat_lt b 128) (w ∷ ws) refl (λ b h. first_of_both _ _ h) e in
+    let cut = pieces_joined w ws (word_plain w (first_of_both _ _ e)) (words_plain ws (second_of_both (is_word w) _ e)) in
+    let ascii = words_pass (λ b. nat_lt b 128) (w ∷ ws) refl (λ b h. second_of_both _ _ h) e in
     let whole : not (list_any is_empty (pieces 32 (join_with_byte 32 (w ∷ ws)))) ≡ true = ap (λ ps. not (list_any is_empty ps)) cut ∙ ap not (none_empty (w ∷ ws) e) in
     λ i. only_if (and_from _ _ ascii whole i) (cut i)
 
--- and have no line feed
-pub words_one_line : (ws : List Word) → are_words ws ≡ true → list_all (λ b. not (b == 10)) (join_with_byte 32 ws) ≡ true
-words_one_line ws e = words_pass (λ b. not (b == 10)) ws refl no_feed e
+-- and their line is cut off the text behind it
+pub line_cut : (w : Word) (ws : List Word) (rest : List ℕ) → are_words (w ∷ ws) ≡ true → pieces 10 (line_text (w ∷ ws) ++ rest) ≡ join_with_byte 32 (w ∷ ws) ∷ pieces 10 rest
+unfolding spelled
+line_cut w ws rest e = pieces_spelled w ws rest (word_plain w (first_of_both _ _ e)) (words_plain ws (second_of_both (is_word w) _ e))
