@@ -1,5 +1,5 @@
 -- What is read of words is what the words say: from a shape back to its words.
-use Rattle.std.proofs.Common.{◌≡◌, ℕ, suc, zero, Bool, true, false, List, [], ◌∷◌, ◌++◌, length, refl, ap, sym, ◌∙◌, inl, inr, subst, append_assoc, append-nil}
+use Rattle.std.proofs.Common.{◌≡◌, ℕ, suc, zero, Bool, true, List, [], ◌∷◌, ◌++◌, length, refl, ap, sym, ◌∙◌, inl, inr, subst, append_assoc, append-nil}
 use Rattle.std.specs.Prelude.{Option, Some, None, codes, bytes_eq, is_some, unwrap_or, flat_map}
 use Rattle.std.proofs.lemmas.Option.{none-some}
 use Rattle.std.proofs.lemmas.Slice.Eq.{bytes_eq-Decides}
@@ -7,9 +7,9 @@ use Rattle.sched_base.specs.declared.names.Class.{Class}
 use Rattle.sched_base.specs.declared.names.Class.TheVariants.{Urgent, Normal, Bulk, Heavy}
 use Rattle.step_tables.specs.declared.shapes.Setting.{Setting}
 use Rattle.step_tables.specs.Words.{Word, ◌or_else◌, only_if, is_name, reasons_of, class_of}
-use Rattle.step_tables.specs.Shapes.{Order, wakes, kills, Delay, keeps, after, never, Place, pinned, shared, tasklet, TaskLine, RowLine, EventLine, Said, sets, task, row, event, ends, word_at, past, word_past, name_at, at_end, init_at, pinned_at, shared_at, tasklet_at, task_place_at, task_end, task_line, tasklet_line, wake_at, kill_at, order_at, and_more, orders_at, after_at, never_at, delay_at, closing, row_start, row_line, event_line, setting_name, setting_line, task_said, tasklet_said, row_said, event_said, end_said, body_line}
+use Rattle.step_tables.specs.Shapes.{Order, wakes, kills, Delay, keeps, Place, TaskLine, RowLine, EventLine, Said, sets, task, row, event, ends, word_at, past, word_past, name_at, at_end, init_at, pinned_at, shared_at, tasklet_at, task_place_at, task_end, task_line, tasklet_line, wake_at, kill_at, order_at, and_more, orders_at, after_at, never_at, delay_at, closing, row_start, row_line, event_line, setting_name, setting_line, task_said, tasklet_said, row_said, event_said, end_said, body_line}
 use Rattle.step_tables.specs.Text.{class_name, order_words, delay_words, init_words, place_words, task_word, said_words}
-use Rattle.step_tables.proofs.Options.{bind_some, only_some, or_some, some_same}
+use Rattle.text_lines.proofs.Steps.{bind_some, only_some, or_some, some_same}
 
 -- equal bytes are the same word
 pub bytes_same : (v w : Word) → bytes_eq v w ≡ true → v ≡ w
@@ -64,7 +64,7 @@ kill_back ws x e =
     let (name, name_found, is_2) = bind_some (name_at rest) _ x is in
     let (named, rest_is) = name_back rest name name_found in
     let all : ws ≡ codes "kill" ∷ name.0 ∷ name.1 = past_back _ ws rest found ∙ ap (λ r. codes "kill" ∷ r) rest_is in
-    let same : (kills name.0, name.1) ≡ x = some_same _ _ is_2 in
+    let same : (kills name.0, name.1) ≡ x = some_same is_2 in
     let P : Order × List Word → Type 0 = λ y. IsOrder y.0 × (ws ≡ order_words y.0 ++ y.1) in
     subst P same (named, all)
 
@@ -75,7 +75,7 @@ order_back ws x e = elim (or_some (wake_at ws) (kill_at ws) x e) [ inl h ↦ wak
 
 end_back : {A : Type 0} (ws : List Word) (x y : A) → at_end ws x ≡ Some y → (ws ≡ []) × (x ≡ y)
 unfolding at_end
-end_back [] x y e = (refl, some_same x y e)
+end_back [] x y e = (refl, some_same e)
 end_back (w ∷ ws) x y e = absurd (none-some y e)
 
 class_back : (w : Word) (c : Class) → class_of w ≡ Some c → w ≡ class_name c
@@ -96,7 +96,7 @@ class_back w c e = elim (or_some (only_if (bytes_eq w (codes "urgent")) Urgent) 
 
 init_back : (ws : List Word) (b : Bool) → init_at ws ≡ Some b → ws ≡ init_words b
 unfolding init_at
-init_back [] b e = ap init_words (some_same false b e)
+init_back [] b e = ap init_words (some_same e)
 init_back (w ∷ ws) b e =
     let (rest, found, is) = bind_some (only_if (bytes_eq w (codes "init")) ws) _ b e in
     let (same, rest_is) = only_some _ ws rest found in
@@ -110,7 +110,7 @@ pinned_back ws x e =
     let (nice, found_2, is_2) = bind_some (word_past (codes "nice") home.1) _ x is in
     let all : ws ≡ codes "home" ∷ home.0 ∷ codes "nice" ∷ nice.0 ∷ nice.1 = word_past_back _ ws home found ∙ ap (λ r. codes "home" ∷ home.0 ∷ r) (word_past_back _ home.1 nice found_2) in
     let P : Place × List Word → Type 0 = λ y. (task_word y.0 ≡ codes "task") × (ws ≡ place_words y.0 ++ y.1) in
-    subst P (some_same (pinned home.0 nice.0, nice.1) x is_2) (refl, all)
+    subst P (some_same is_2) (refl, all)
 
 shared_back : (ws : List Word) (x : Place × List Word) → shared_at ws ≡ Some x → (task_word x.0 ≡ codes "task") × (ws ≡ place_words x.0 ++ x.1)
 unfolding shared_at
@@ -119,7 +119,7 @@ shared_back ws x e =
     let (nice, found_2, is_2) = bind_some (word_past (codes "nice") rest) _ x is in
     let all : ws ≡ codes "shared" ∷ codes "nice" ∷ nice.0 ∷ nice.1 = past_back _ ws rest found ∙ ap (λ r. codes "shared" ∷ r) (word_past_back _ rest nice found_2) in
     let P : Place × List Word → Type 0 = λ y. (task_word y.0 ≡ codes "task") × (ws ≡ place_words y.0 ++ y.1) in
-    subst P (some_same (shared nice.0, nice.1) x is_2) (refl, all)
+    subst P (some_same is_2) (refl, all)
 
 tasklet_back : (ws : List Word) (x : Place × List Word) → tasklet_at ws ≡ Some x → (task_word x.0 ≡ codes "tasklet") × (ws ≡ place_words x.0 ++ x.1)
 unfolding tasklet_at
@@ -130,7 +130,7 @@ tasklet_back ws x e =
     let all : ws ≡ codes "home" ∷ home.0 ∷ codes "class" ∷ class_name c ∷ class.1 =
     word_past_back _ ws home found ∙ ap (λ r. codes "home" ∷ home.0 ∷ r) (word_past_back _ home.1 class found_2 ∙ ap (λ w. codes "class" ∷ w ∷ class.1) (class_back class.0 c found_3)) in
     let P : Place × List Word → Type 0 = λ y. (task_word y.0 ≡ codes "tasklet") × (ws ≡ place_words y.0 ++ y.1) in
-    subst P (some_same (tasklet home.0 c, class.1) x is_3) (refl, all)
+    subst P (some_same is_3) (refl, all)
 
 task_place_back : (ws : List Word) (x : Place × List Word) → task_place_at ws ≡ Some x → (task_word x.0 ≡ codes "task") × (ws ≡ place_words x.0 ++ x.1)
 unfolding task_place_at
@@ -142,7 +142,7 @@ task_end_back ws x e =
     let (rows, found, is) = bind_some (word_past (codes "rows") ws) _ x e in
     let (init, found_2, is_2) = bind_some (init_at rows.1) _ x is in
     word_past_back _ ws rows found ∙ ap (λ r. codes "rows" ∷ rows.0 ∷ r) (init_back rows.1 init found_2)
-    ∙ ap (λ y. codes "rows" ∷ y.0 ∷ init_words y.1) (some_same (rows.0, init) x is_2)
+    ∙ ap (λ y. codes "rows" ∷ y.0 ∷ init_words y.1) (some_same is_2)
 
 -- what stands behind the first word of a task's line
 abbrev task_rest : TaskLine → List Word
@@ -158,7 +158,7 @@ task_back ws line e =
     let (word_is, place_is) = task_place_back name.1 place found_2 in
     let all = ws_is ∙ ap (λ r. name.0 ∷ r) (place_is ∙ ap (λ r. place_words place.0 ++ r) (task_end_back place.1 end found_3)) in
     let P : TaskLine → Type 0 = λ l. (is_name l.name ≡ true) × (task_word l.place ≡ codes "task") × (ws ≡ task_rest l) in
-    subst P (some_same _ line is_3) (named, word_is, all)
+    subst P (some_same is_3) (named, word_is, all)
 
 tasklet_line_back : (ws : List Word) (line : TaskLine) → tasklet_line ws ≡ Some line → (is_name line.name ≡ true) × (task_word line.place ≡ codes "tasklet") × (ws ≡ task_rest line)
 unfolding tasklet_line
@@ -170,7 +170,7 @@ tasklet_line_back ws line e =
     let (word_is, place_is) = tasklet_back name.1 place found_2 in
     let all = ws_is ∙ ap (λ r. name.0 ∷ r) (place_is ∙ ap (λ r. place_words place.0 ++ r) (task_end_back place.1 end found_3)) in
     let P : TaskLine → Type 0 = λ l. (is_name l.name ≡ true) × (task_word l.place ≡ codes "tasklet") × (ws ≡ task_rest l) in
-    subst P (some_same _ line is_3) (named, word_is, all)
+    subst P (some_same is_3) (named, word_is, all)
 
 -- actions that a line can have
 abbrev pub AreOrders : List Order → Type 0
@@ -197,10 +197,10 @@ delay_back ws = go (after_at ws) (never_at ws) refl refl
     go : (o p : Option (Delay × List Word)) → after_at ws ≡ o → never_at ws ≡ p → ws ≡ delay_words (unwrap_or (o or_else p) (keeps, ws)).0 ++ (unwrap_or (o or_else p) (keeps, ws)).1
     go (Some x) p e f =
         let (ticks, found, is) = bind_some (word_past (codes "after") ws) _ x e in
-        word_past_back _ ws ticks found ∙ ap (λ y. delay_words y.0 ++ y.1) (some_same (after ticks.0, ticks.1) x is)
+        word_past_back _ ws ticks found ∙ ap (λ y. delay_words y.0 ++ y.1) (some_same is)
     go None (Some x) e f =
         let (rest, found, is) = bind_some (past (codes "never") ws) _ x f in
-        past_back _ ws rest found ∙ ap (λ y. delay_words y.0 ++ y.1) (some_same (never, rest) x is)
+        past_back _ ws rest found ∙ ap (λ y. delay_words y.0 ++ y.1) (some_same is)
     go None None e f = refl
 
 closing_back : (ws : List Word) (x : Delay × Word) → closing ws ≡ Some x → ws ≡ delay_words x.0 ++ codes "next" ∷ x.1 ∷ []
@@ -221,7 +221,7 @@ row_back ws line e =
     let (start, found, is) = bind_some (row_start ws) _ line e in
     let (name, found_2, is_2) = bind_some (name_at ws) _ start found in
     let (number, found_3, is_3) = bind_some (word_at name.1) _ start is_2 in
-    let same = some_same (name.0, number.0, number.1) start is_3 in
+    let same = some_same is_3 in
     let (named, ws_is) = name_back ws name found_2 in
     let P : Word × Word × List Word → Type 0 = λ y. (is_name y.0 ≡ true) × (ws ≡ y.0 ∷ y.1 ∷ y.2) in
     let (start_named, start_is) = subst P same (named, ws_is ∙ ap (λ r. name.0 ∷ r) (word_back name.1 number found_3)) in
@@ -229,7 +229,7 @@ row_back ws line e =
     let (are, orders_are) = orders_back (length start.2) start.2 in
     let all = start_is ∙ ap (λ r. start.0 ∷ start.1 ∷ r) (orders_are ∙ ap (λ r. flat_map order_words (orders_at (length start.2) start.2).0 ++ r) (closing_back _ close found_4)) in
     let Q : RowLine → Type 0 = λ l. (is_name l.name ≡ true) × AreOrders l.orders × (ws ≡ row_rest l) in
-    subst Q (some_same _ line is_4) (start_named, are, all)
+    subst Q (some_same is_4) (start_named, are, all)
 
 event_back : (ws : List Word) (line : EventLine) → event_line ws ≡ Some line → IsOrder line.order × (ws ≡ line.round ∷ order_words line.order)
 unfolding event_line
@@ -257,22 +257,22 @@ body_back ws x e = elim (or_some (task_said ws) _ x e) [
   | inl h ↦ (let (rest, found, is) = bind_some (past (codes "task") ws) _ x h in
       let (line, found_2, is_2) = bind_some (task_line rest) _ x is in
       let (named, word_is, rest_is) = task_back rest line found_2 in
-      subst P (some_same _ x is_2) (named, past_back _ ws rest found ∙ (λ i. sym word_is i ∷ rest_is i)))
+      subst P (some_same is_2) (named, past_back _ ws rest found ∙ (λ i. sym word_is i ∷ rest_is i)))
   | inr e2 ↦ (elim (or_some (tasklet_said ws) _ x e2) [
     | inl h ↦ (let (rest, found, is) = bind_some (past (codes "tasklet") ws) _ x h in
         let (line, found_2, is_2) = bind_some (tasklet_line rest) _ x is in
         let (named, word_is, rest_is) = tasklet_line_back rest line found_2 in
-        subst P (some_same _ x is_2) (named, past_back _ ws rest found ∙ (λ i. sym word_is i ∷ rest_is i)))
+        subst P (some_same is_2) (named, past_back _ ws rest found ∙ (λ i. sym word_is i ∷ rest_is i)))
     | inr e3 ↦ (elim (or_some (row_said ws) _ x e3) [
       | inl h ↦ (let (rest, found, is) = bind_some (past (codes "row") ws) _ x h in
           let (line, found_2, is_2) = bind_some (row_line rest) _ x is in
           let (named, are, rest_is) = row_back rest line found_2 in
-          subst P (some_same _ x is_2) ((named, are), past_back _ ws rest found ∙ ap (λ r. codes "row" ∷ r) rest_is))
+          subst P (some_same is_2) ((named, are), past_back _ ws rest found ∙ ap (λ r. codes "row" ∷ r) rest_is))
       | inr e4 ↦ (elim (or_some (event_said ws) _ x e4) [
         | inl h ↦ (let (rest, found, is) = bind_some (past (codes "event") ws) _ x h in
             let (line, found_2, is_2) = bind_some (event_line rest) _ x is in
             let (is_order, rest_is) = event_back rest line found_2 in
-            subst P (some_same _ x is_2) (is_order, past_back _ ws rest found ∙ ap (λ r. codes "event" ∷ r) rest_is))
+            subst P (some_same is_2) (is_order, past_back _ ws rest found ∙ ap (λ r. codes "event" ∷ r) rest_is))
         | inr h ↦ (let (rest, found, is) = bind_some (past (codes "end") ws) _ x h in
             let (none, same) = end_back rest ends x is in
             subst P same (tt, past_back _ ws rest found ∙ ap (λ r. codes "end" ∷ r) none))

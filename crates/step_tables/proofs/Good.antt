@@ -1,6 +1,6 @@
 -- What is known of a line without a fault.
-use Rattle.std.proofs.Common.{◌≡◌, ℕ, suc, zero, ◌≤◌, ◌<◌, Bool, true, false, cond, List, [], ◌∷◌, length, refl, sym, arith}
-use Rattle.std.specs.Prelude.{Option, Some, None, is_none, bytes_eq, ◌||◌, nat_lt, nat_le, slice_get}
+use Rattle.std.proofs.Common.{◌≡◌, ℕ, ◌≤◌, ◌<◌, Bool, true, false, cond, length, refl, sym}
+use Rattle.std.specs.Prelude.{Option, Some, None, is_none, bytes_eq, ◌||◌, nat_lt, nat_le}
 use Rattle.std.specs.List.{list_any}
 use Rattle.std.proofs.lemmas.Option.{none-some}
 use Rattle.std.proofs.lemmas.Bool.{ltb-false, eqb-true, or_parts, not-false, leb-false}
@@ -14,12 +14,6 @@ use Rattle.step_tables.specs.Judging.{no_number, delay_no_number, place_no_numbe
 pub passes : {K : Type 0} (b : Bool) (kind : K) (rest : Option K) → cond b (Some kind) rest ≡ None → (b ≡ false) × (rest ≡ None)
 passes true kind rest e = absurd (none-some kind (sym e))
 passes false kind rest e = (refl, e)
-
--- an element that there is
-pub inside_get : {A : Type 0} (xs : List A) (i : ℕ) (x : A) → slice_get xs i ≡ Some x → i < length xs
-inside_get [] i x e = absurd (none-some x e)
-inside_get (y ∷ ys) zero x e = omega arith
-inside_get (y ∷ ys) (suc i) x e = let less = inside_get ys i x e in omega arith
 
 -- the row that must come next
 pub record Target (p : Progress) (line : RowLine) (task : TaskDef) : Type 0 where

@@ -1,5 +1,4 @@
 mod Examples
-pub mod Options
 pub mod Bounds
 pub mod Good
 pub mod Steps

@@ -1,4 +1,5 @@
 -- The row lines of a script in range pass, one after another.
+use Rattle.std.proofs.lemmas.Option.{slice_get_within}
 use Rattle.std.proofs.lemmas.Bool.{and_from, or_from, eq-eqb, leb-true, lt-leb, ltb-true, le-ltb, not_from_true}
 use Rattle.std.proofs.Common.{◌≡◌, ℕ, suc, ◌+◌, ◌^◌, ◌≤◌, ◌<◌, Bool, true, false, cond, List, [], ◌∷◌, ◌++◌, map, length, set, refl, ap, sym, ◌∙◌, arith, subst, append_assoc, append-nil, length-append}
 use Rattle.std.specs.Prelude.{Some, None, bytes_eq, codes, not, ◌==◌, nat_lt, nat_le, decimal, slice_get, slice_index, flat_map, if◌then◌else◌}
@@ -20,7 +21,6 @@ use Rattle.step_tables.specs.Limits.{most_rows, most_actions}
 use Rattle.step_tables.specs.Judging.{all_rows, due, promised, value, no_number, delay_no_number, unknown, wrong_target, barred, with_row_at_end, with_row, with_line}
 use Rattle.step_tables.proofs.RowsOf.{first_of_both, second_of_both}
 use Rattle.step_tables.proofs.NameAt.{name_there}
-use Rattle.step_tables.proofs.Good.{inside_get}
 use Rattle.step_tables.proofs.WordsAgain.{is_word, are_words, number_is_word, is_number, value_again, name_is_word}
 use Rattle.step_tables.proofs.RunAgain.{Passes, Runs, runs_then, no_kind}
 use Rattle.step_tables.proofs.Bounds.{within_most, rows_small}
@@ -66,7 +66,7 @@ row_passes p u rows r now =
     let e_3 = second_of_both (list_all (is_sound_action (length p.tasks)) r.actions) _ e_2 in
     let expiry = first_of_both (is_sound_expiry u.kind r.expiry) _ e_3 in
     let next : r.next < rows = ltb-true r.next rows (second_of_both (is_sound_expiry u.kind r.expiry) _ e_3) in
-    let at : p.at < length p.tasks = inside_get p.tasks p.at u now.is_due in
+    let at : p.at < length p.tasks = slice_get_within p.tasks p.at u now.is_due in
     let k_small : length u.rows < 10 ^ 10 = small_below rows (length u.rows) now.few now.more in
     let next_small : r.next < 10 ^ 10 = small_below rows r.next now.few next in
     let named : is_name u.name ≡ true = ap is_name (sym (due_name p u now.is_due)) ∙ name_fine p.tasks p.at now.fine at in

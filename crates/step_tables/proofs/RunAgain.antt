@@ -1,4 +1,5 @@
 -- Lines that pass are taken one after another.
+use Rattle.std.proofs.lemmas.Option.{slice_get_past}
 use Rattle.std.proofs.Common.{◌≡◌, ℕ, ◌+◌, ◌-◌, ◌^◌, ◌<◌, Bool, true, false, cond, List, [], ◌∷◌, ◌++◌, map, refl, ap, sym, ◌∙◌, arith, subst, inl, inr, eqb-true}
 use Rattle.std.specs.Prelude.{Option, Some, None, Ok, Err, ◌==◌, decimal}
 use Rattle.std.specs.List.{join_with_byte, list_all}
@@ -18,7 +19,6 @@ use Rattle.step_tables.specs.Judging.{version_of, judge_header, first_fault, tes
 use Rattle.step_tables.proofs.Bounds.{inside_small}
 use Rattle.step_tables.proofs.Back.{IsBody}
 use Rattle.step_tables.proofs.Steps.{judged, judged_more}
-use Rattle.step_tables.proofs.Walk.{get_past}
 use Rattle.step_tables.proofs.RowsOf.{first_of_both, second_of_both}
 use Rattle.step_tables.proofs.WordsAgain.{is_word, are_words, words_again, line_cut, number_is_word, is_number, value_again}
 use Rattle.step_tables.proofs.ShapesAgain.{body_again, setting_again}
@@ -81,7 +81,7 @@ body_said_again : (n : ℕ) (x : Said) → 6 < n → IsBody x → are_words (sai
 unfolding said_of said_in setting_at
 body_said_again n x behind body words =
     ap (λ o. o >>= said_in (setting_at n)) (some_words (said_words x) (said_some x) words)
-    ∙ ap (λ o. said_in o (said_words x)) (get_past (Workers ∷ Depth ∷ Start ∷ Step ∷ Rounds ∷ []) (n - 2) (omega arith))
+    ∙ ap (λ o. said_in o (said_words x)) (slice_get_past (Workers ∷ Depth ∷ Start ∷ Step ∷ Rounds ∷ []) (n - 2) (omega arith))
     ∙ body_again x body
 
 pub lines_some : (xs : List Said) → is_empty (map bytes_of xs ++ [] ∷ []) ≡ false

@@ -1,7 +1,8 @@
 -- A script, line by line: the five settings, then the other lines.
-use Rattle.std.proofs.Common.{◌≡◌, ℕ, suc, zero, ◌+◌, ◌-◌, ◌≤◌, ◌<◌, Bool, true, false, List, [], ◌∷◌, length, refl, ap, sym, ◌∙◌, arith, inl, inr}
+use Rattle.std.proofs.lemmas.Option.{slice_get_past}
+use Rattle.std.proofs.Common.{◌≡◌, ℕ, ◌+◌, ◌-◌, ◌<◌, Bool, true, false, List, [], ◌∷◌, refl, ap, sym, ◌∙◌, arith, inl, inr}
 use Rattle.std.proofs.lemmas.Bool.{both_ways}
-use Rattle.std.specs.Prelude.{Option, Some, None, Result, Ok, Err, slice_get, if◌then◌else◌}
+use Rattle.std.specs.Prelude.{Option, Some, None, Result, Ok, Err, if◌then◌else◌}
 use Rattle.step_tables.specs.declared.faults.FaultKind.{FaultKind}
 use Rattle.step_tables.specs.declared.tables.Script.{Script}
 use Rattle.step_tables.specs.declared.progress.Progress.{Progress}
@@ -14,7 +15,7 @@ use Rattle.text_lines.specs.Lines.{is_line, line_taken, closed, folded}
 use Rattle.text_lines.proofs.LimitLaws.{go_back}
 use Rattle.step_tables.specs.Limits.{limits_of}
 use Rattle.step_tables.specs.Judging.{first_fault, tests, value, no_number, outside, least, most, with_setting, with_line, setting_at, said_in, said_of, scripts, script_from, script_read}
-use Rattle.step_tables.proofs.Options.{bind_some}
+use Rattle.text_lines.proofs.Steps.{bind_some}
 use Rattle.step_tables.proofs.Back.{IsBody, body_back, setting_back}
 use Rattle.step_tables.proofs.Good.{passes}
 use Rattle.step_tables.proofs.Steps.{Adds, IsTaken, taken_back, chose_one, judged}
@@ -121,16 +122,11 @@ pub record BodyLine (line : List ℕ) (p q : Progress) : Type 0 where
   pub unended : p.ended ≡ false
   pub adds : Adds p said q
 
-pub get_past : {A : Type 0} (xs : List A) (i : ℕ) → length xs ≤ i → slice_get xs i ≡ None
-get_past [] i h = refl
-get_past (x ∷ xs) zero h = absurd (omega arith)
-get_past (x ∷ xs) (suc i) h = get_past xs i (omega arith)
-
 pub body_line_of : (long : Option ℕ) (n : ℕ) (line : List ℕ) (p q : Progress) → 6 < n → IsTaken n line p q → BodyLine line p q
 unfolding said_of said_in setting_at
 body_line_of long n line p q behind is = elim is.what [
   | inl h ↦ absurd (let first = h.first in omega arith)
-  | inr h ↦ (let none : setting_at n ≡ None = get_past (Workers ∷ Depth ∷ Start ∷ Step ∷ Rounds ∷ []) (n - 2) (omega arith) in
+  | inr h ↦ (let none : setting_at n ≡ None = slice_get_past (Workers ∷ Depth ∷ Start ∷ Step ∷ Rounds ∷ []) (n - 2) (omega arith) in
       let (ws, words, said) = bind_some (words_of line) (said_in (setting_at n)) h.said h.says in
       let (body, ws_is) = body_back ws h.said (ap (λ o. said_in o ws) (sym none) ∙ said) in
       record { said = h.said; body = body; words = words ∙ ap Some ws_is; unended = is.unended; adds = h.adds })

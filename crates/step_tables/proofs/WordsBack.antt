@@ -12,7 +12,7 @@ use Rattle.text_lines.proofs.NumbersAgain as numbers
 use Rattle.text_lines.proofs.ReasonsAgain as lists
 use Rattle.step_tables.specs.Text.{reasons_text}
 use Rattle.step_tables.specs.Judging.{value, signed_value, no_number, no_signed, reasons_named}
-use Rattle.step_tables.proofs.Options.{bind_some, only_some}
+use Rattle.text_lines.proofs.Steps.{bind_some, only_some}
 use Rattle.step_tables.proofs.Steps.{chose}
 
 -- a number's word is what is written of its value

@@ -1,7 +1,7 @@
 use Rattle.std.proofs.Common.{◌∙◌, sym}
 use Rattle.step_tables.specs.Judging.{action_of}
 use Rattle.step_tables.specs.Views.{order_view}
-use Rattle.step_tables.proofs.ListViews.{map-map}
+use Rattle.std.proofs.lemmas.Simd.{map-map}
 use Rattle.step_tables.proofs.names.actions_of.Goals as goal
 
 pub returns : goal.returns
