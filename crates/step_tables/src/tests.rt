@@ -41,7 +41,7 @@ const LONG_FRONT: &str = "taskscript 1\nworkers 16\ndepth 1000\nstart 4294967290
 const EVENT: &str = "event 0 wake aaaaaaaaaaaaaaa init,timer,io,signal,msg,res,other\n";
 
 /// Begins and ends of texts, with what each whole text is.
-const TEXTS: [(&str, &str, Verdict); 84] = [
+const TEXTS: [(&str, &str, Verdict); 50] = [
     // Scripts.
     (ROWS, "end\n", Reads(1, 0)),
     (
@@ -68,27 +68,8 @@ const TEXTS: [(&str, &str, Verdict); 84] = [
         Reads(2, 1),
     ),
     (
-        "taskscript 1\nworkers 1\ndepth 200\nstart 1000\nstep 10\nrounds 20\n",
-        "task check home 0 nice 0 rows 2 init\ntasklet conn home 0 class urgent rows 1\n\
-         row check 0 wake conn io after 20 next 1\nrow check 1 kill conn kill check next 1\n\
-         row conn 0 next 0\nend\n",
-        Reads(2, 0),
-    ),
-    (
-        "taskscript 1\nworkers 16\ndepth 1000\nstart 0\nstep 1048576\nrounds 100000\n",
-        "task next shared nice -1024 rows 1\nrow next 0 wake next init,other kill next next 0\n\
-         event 3 kill next\nevent 3 wake next timer,io,signal,msg,res\nevent 99999 kill next\n\
-         end\n",
-        Reads(1, 3),
-    ),
-    (
         "taskscript 1\nworkers 1\ndepth 200\nstart 0\nstep 1\nrounds 5\n",
         "task a home 0 nice 0 rows 1 init\nrow a 0 kill a next 0\nend\n",
-        Reads(1, 0),
-    ),
-    (
-        "taskscript 1\nworkers 1\ndepth 200\nstart 1\nstep 1\nrounds 3\n",
-        "task a home 0 nice 0 rows 1 init\nrow a 0 wake a other next 0\nend\n",
         Reads(1, 0),
     ),
     (
@@ -97,48 +78,25 @@ const TEXTS: [(&str, &str, Verdict); 84] = [
         Reads(1, 0),
     ),
     // Another header.
-    ("", "taskscript 9\nworkers 1\n", Fault(1, 1)),
     ("", "taskscript 3\nworkers 1\n", Fault(1, 1)),
     ("", "taskscript 01\nworkers x\n", Fault(1, 1)),
     ("", "taskscript 1 \n", Fault(1, 1)),
     ("", "\n", Fault(1, 1)),
     // Words that fit no shape, or a line that may not come here.
-    (HEADER, "depth 200\n", Fault(2, 2)),
     (HEADER, "workers\t1\n", Fault(2, 2)),
-    (HEADER, "workers 1 \n", Fault(2, 2)),
     (HEADER, "workers 1 1\n", Fault(2, 2)),
     (SETTINGS, "\n", Fault(7, 2)),
     (SETTINGS, " end\n", Fault(7, 2)),
-    (SETTINGS, "task a home 0  nice 0 rows 2\n", Fault(7, 2)),
     (SETTINGS, "task a home 0 nice 0 rows 2 \n", Fault(7, 2)),
     (SETTINGS, "task a home 0\tnice 0 rows 2\n", Fault(7, 2)),
     (SETTINGS, "task é home 0 nice 0 rows 2\n", Fault(7, 2)),
     (SETTINGS, "task a home 0 nice 0 rows ²\n", Fault(7, 2)),
-    (
-        SETTINGS,
-        "task a2345678901234567 home 0 nice 0 rows 2\n",
-        Fault(7, 2),
-    ),
     (SETTINGS, "task A home x nice 0 rows 2\n", Fault(7, 2)),
-    (
-        SETTINGS,
-        "tasklet a home 0 class slow rows 2\n",
-        Fault(7, 2),
-    ),
-    (SETTINGS, "row a 0 next 0\n", Fault(7, 2)),
-    (SETTINGS, "end\n\n", Fault(8, 2)),
-    (SETTINGS, "end\nx", Fault(8, 2)),
     (SETTINGS, "end\ntaskscript 1\n", Fault(8, 2)),
-    (TASK, "event 0 kill a\n", Fault(8, 2)),
     (TASK, "end\n", Fault(8, 2)),
-    (TASK, "row a 0 wake a io,timer next 0\n", Fault(8, 2)),
-    (ROW, "task b home 0 nice 0 rows 1\n", Fault(9, 2)),
     // A word that writes no number.
-    (HEADER, "workers 01\ndepth x\n", Fault(2, 3)),
-    (HEADER, "workers +1\n", Fault(2, 3)),
     (HEADER, "workers 10000000000\n", Fault(2, 3)),
     (HEADER, "workers 1\t\n", Fault(2, 3)),
-    (SETTINGS, "task a home 0 nice -0 rows 2\n", Fault(7, 3)),
     (SETTINGS, "task a home -1 nice 0 rows 65\n", Fault(7, 3)),
     (SETTINGS, "event -1 kill b\n", Fault(7, 3)),
     (TASK, "task a home 00 nice 0 rows 1\n", Fault(8, 3)),
@@ -149,7 +107,6 @@ const TEXTS: [(&str, &str, Verdict); 84] = [
     (TASK, "row a 1 wake b io next 0\n", Fault(8, 4)),
     (ROWS, "event 0 wake b io\n", Fault(10, 4)),
     // The name of another task.
-    (TASK, "tasklet a home 0 class bulk rows 1\n", Fault(8, 5)),
     (TASK, "task a shared nice 2000 rows 0\n", Fault(8, 5)),
     (
         TASK,
@@ -157,26 +114,14 @@ const TEXTS: [(&str, &str, Verdict); 84] = [
         Fault(9, 5),
     ),
     // Another row than the next, or no row to go to.
-    (TASK, "row a 0 next 64\n", Fault(8, 6)),
     (TASK, "row a 0 after 0 next 2\n", Fault(8, 6)),
-    (TASK, "row a 1 next 0\n", Fault(8, 6)),
     (
         TASK,
         "task b shared nice 0 rows 1\nrow b 0 after 1 next 0\n",
         Fault(9, 6),
     ),
-    (
-        SETTINGS,
-        "task s shared nice 0 rows 1\nrow s 0 never next 1\n",
-        Fault(8, 6),
-    ),
     (ROW, "row a 0 next 0\n", Fault(9, 6)),
     // An expiry that the task may not have.
-    (
-        SETTINGS,
-        "task s shared nice 0 rows 1\nrow s 0 after 5 next 0\n",
-        Fault(8, 7),
-    ),
     (
         SETTINGS,
         "task s shared nice 0 rows 1\nrow s 0 after 0 next 0\n",
@@ -189,35 +134,15 @@ const TEXTS: [(&str, &str, Verdict); 84] = [
     ),
     // A number out of its range, or too many.
     (HEADER, "workers 17\n", Fault(2, 8)),
-    (HEADER, "workers 0\n", Fault(2, 8)),
     (HEADER, "workers 1\ndepth 1001\n", Fault(3, 8)),
-    (
-        HEADER,
-        "workers 1\ndepth 1\nstart 4294967296\n",
-        Fault(4, 8),
-    ),
-    (SETTINGS, "task a home 1 nice 0 rows 2\n", Fault(7, 8)),
     (SETTINGS, "task a home 0 nice -1025 rows 2\n", Fault(7, 8)),
     (SETTINGS, "task a home 0 nice 0 rows 65\n", Fault(7, 8)),
-    (TASK, "row a 0 after 0 next 0\n", Fault(8, 8)),
     (TASK, "row a 0 after 1073741825 next 0\n", Fault(8, 8)),
-    (
-        TASK,
-        "row a 0 kill a kill a kill a kill a kill a kill a kill a kill a kill a kill a kill a \
-         kill a kill a kill a kill a kill a kill a next 0\n",
-        Fault(8, 8),
-    ),
-    (ROWS, "event 10 kill a\n", Fault(10, 8)),
-    (ROWS, "event 3 kill a\nevent 2 kill a\n", Fault(11, 8)),
     // A text that ends too early; its open piece is not judged.
-    ("", "", Fault(1, 9)),
     ("", "taskscript 1", Fault(1, 9)),
     (HEADER, "", Fault(2, 9)),
     (SETTINGS, "", Fault(7, 9)),
     (SETTINGS, "task a home 0 nice 0 rows 2", Fault(7, 9)),
-    (ROW, "", Fault(9, 9)),
-    (ROW, "row a 0  next x", Fault(9, 9)),
-    (ROWS, "end", Fault(10, 9)),
     (ROWS, "event 0 kill a\nen", Fault(11, 9)),
 ];
 

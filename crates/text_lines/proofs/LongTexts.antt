@@ -1,12 +1,11 @@
 -- A text that is longer than its limit is judged by the bytes up to the one behind it.
-use Rattle.std.proofs.Common.{◌≡◌, ℕ, zero, suc, ◌+◌, ◌<◌, ◌≤◌, Bool, true, false, cond, eqb, if◌then◌else◌, nat_le, List, [], ◌∷◌, ◌++◌, length, take, count_by, ◌==◌, Option, Some, None, Result, Ok, Err, refl, ap, ◌∙◌, sym, subst, arith, append_assoc, ⊎_elim, add_assoc, zero-add}
+use Rattle.std.proofs.Common.{◌≡◌, ℕ, zero, suc, ◌+◌, ◌<◌, ◌≤◌, Bool, true, false, cond, eqb, if◌then◌else◌, nat_le, List, [], ◌∷◌, ◌++◌, length, take, count_by, ◌==◌, Some, None, Result, Ok, Err, refl, ap, ◌∙◌, sym, subst, arith, append_assoc, ⊎_elim, add_assoc, zero-add}
 use Rattle.std.specs.List.{All, onto_first}
-use Rattle.std.proofs.lemmas.Bool.{cond-true, cond-false, eq-eqb, ne_eqb, lt-leb, cases_Bool, cases_lt, true≢false}
+use Rattle.std.proofs.lemmas.Bool.{cond-true, cond-false, eq-eqb, lt-leb, cases_Bool, cases_lt, true≢false}
 use Rattle.std.proofs.lemmas.List.Splits.{slice_split_at, slice_split-cons_no}
 use Rattle.std.proofs.lemmas.List.Sums.{sum_by-cons}
 use Rattle.std.proofs.lemmas.List.{take-take, length-take}
 use Rattle.std.proofs.lemmas.List.Elements.{All-nil, All-push}
-use Rattle.text_lines.specs.Steps.{is_empty}
 use Rattle.text_lines.specs.Pieces.{pieces}
 use Rattle.text_lines.specs.Lines.{Format, at_line, line_taken, closed, go_on, folded, line_over, read_within}
 use Rattle.text_lines.proofs.Cuts.{pieces_some}
