@@ -1,5 +1,5 @@
 -- The first byte that passes a test, as a search tells it.
-use Rattle.std.proofs.Common.{refl, ◌≡◌, ℕ, ◌<◌, ◌≤◌, List, length, get_or, Option, Some, None, ap, ◌∙◌, sym, arith, Bool, true, false, nat_lt}
+use Rattle.std.proofs.Common.{refl, ◌≡◌, ℕ, ◌<◌, List, length, get_or, Option, Some, None, ap, ◌∙◌, sym, arith, Bool, true, false, nat_lt}
 use Rattle.std.specs.List.{position, position_or_len}
 use Rattle.std.proofs.lemmas.List.Sums.{position_or_len_is}
 use Rattle.std.proofs.lemmas.Bool.{cond-true, cond-false, lt-ltb, le-ltb}

@@ -1,9 +1,8 @@
 -- What is read by a shape is written as the same words.
-use Rattle.std.proofs.Common.{◌≡◌, ℕ, ◌^◌, ◌<◌, Bool, true, false, List, [], ◌∷◌, ◌++◌, decimal, refl, ap, sym, ◌∙◌, arith, subst}
-use Rattle.std.specs.Prelude.{Option, Some, None, option_map, bytes_eq}
+use Rattle.std.proofs.Common.{◌≡◌, List, [], ◌∷◌, ◌++◌, refl, ap, sym, ◌∙◌, arith, subst}
+use Rattle.std.specs.Prelude.{Option, Some, None, bytes_eq}
 use Rattle.std.specs.Cmp.Lexicographic.{same_text}
 use Rattle.std.proofs.lemmas.Option.{none-some}
-use Rattle.text_lines.specs.Steps.{only_if}
 use Rattle.text_lines.specs.Pieces.{Word}
 use Rattle.text_lines.specs.Numbers.{number}
 use Rattle.text_lines.specs.Slots.{Slot, Value, of_small, of_number, of_reasons, of_index, of_text}

@@ -4,7 +4,7 @@ use Rattle.std.proofs.lemmas.Bool.{eq-eqb, cases_lt, leb-true}
 use Rattle.std.proofs.lemmas.List.{length-take}
 use Rattle.std.proofs.lemmas.List.Sums.{count_by-le-length}
 use Rattle.text_lines.specs.Pieces.{pieces}
-use Rattle.text_lines.specs.Lines.{Format, is_line, at_line, line_taken, closed, go_on, folded, line_over}
+use Rattle.text_lines.specs.Lines.{Format, at_line, line_taken, closed, go_on, folded, line_over}
 use Rattle.text_lines.proofs.Cuts.{pieces_some}
 
 -- so many bytes have no more lines than can be counted

@@ -1,5 +1,5 @@
 -- Lists seen through a function.
-use Rattle.std.proofs.Common.{◌≡◌, ℕ, suc, zero, ◌+◌, Bool, cond, get_or, ◌≤◌, ◌<◌, List, [], ◌∷◌, map, length, drop, refl, ap, sym, ◌∙◌, arith}
+use Rattle.std.proofs.Common.{◌≡◌, ℕ, suc, zero, ◌+◌, Bool, cond, get_or, ◌≤◌, ◌<◌, List, [], ◌∷◌, map, length, drop, refl, ap, arith}
 use Rattle.std.specs.Prelude.{Some, slice_get, option_map, slice_index_or}
 use Rattle.std.specs.List.{position_from}
 use Rattle.std.proofs.lemmas.List.{drop_more, drop_all}

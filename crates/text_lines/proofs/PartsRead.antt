@@ -1,10 +1,10 @@
 -- A part of a line, as it is read by its first word.
-use Rattle.std.proofs.Common.{◌≡◌, List, [], ◌∷◌, refl, ap, sym, ◌∙◌}
+use Rattle.std.proofs.Common.{◌≡◌, List, ap, sym, ◌∙◌}
 use Rattle.std.specs.Prelude.{Option, Some, None}
 use Rattle.text_lines.specs.Steps.{◌>>=◌}
 use Rattle.text_lines.specs.Pieces.{Word, word_at}
 use Rattle.text_lines.specs.Slots.{Row}
-use Rattle.text_lines.specs.Shapes.{Front, front, kind_named, Part, of_kind, part_at}
+use Rattle.text_lines.specs.Shapes.{Front, front, kind_named, of_kind, part_at}
 use Rattle.text_lines.proofs.FrontSteps.{word_there, no_word}
 
 pub part_none : {K : Type 0} (row : K → Row) (kinds : List K) (ws : List Word) → None ≡ word_at ws → None ≡ part_at row kinds ws

@@ -1,5 +1,5 @@
 -- Words have no space and no line feed, so that a text is cut where it was joined.
-use Rattle.std.proofs.Common.{◌≡◌, ℕ, zero, suc, ◌^◌, ◌/◌, ◌%◌, ◌<◌, Bool, true, false, ◌==◌, ltb, leb, nat_lt, List, [], ◌∷◌, ◌++◌, decimal, length, get_or, refl, ap, ◌∙◌, arith, append_assoc}
+use Rattle.std.proofs.Common.{◌≡◌, ℕ, zero, suc, ◌^◌, ◌/◌, ◌%◌, ◌<◌, true, false, ◌==◌, ltb, leb, nat_lt, List, [], ◌∷◌, ◌++◌, decimal, length, get_or, refl, ap, ◌∙◌, arith, append_assoc}
 use Rattle.std.specs.List.{list_all, join_with_byte, All}
 use Rattle.std.specs.Str.{all_ascii_digits}
 use Rattle.std.specs.Char.{is_ascii_digit}

@@ -1,5 +1,5 @@
 -- A text judged line by line, up to its first bad line: docs/TEXTS.md, "Judging".
-use Rattle.std.specs.Prelude.{ℕ, ◌+◌, Bool, true, false, ◌==◌, if◌then◌else◌, nat_le, List, [], ◌∷◌, length, take, count_by, Option, Some, None, Result, Ok, Err}
+use Rattle.std.specs.Prelude.{ℕ, ◌+◌, Bool, false, ◌==◌, if◌then◌else◌, nat_le, List, [], ◌∷◌, length, take, count_by, Option, Some, None, Result, Ok, Err}
 use Rattle.text_lines.specs.Steps.{is_empty}
 use Rattle.text_lines.specs.Pieces.{pieces}
 

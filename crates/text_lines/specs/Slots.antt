@@ -1,5 +1,5 @@
 -- The slots of a line, and the values that stand in them: docs/TEXTS.md, "Shapes".
-use Rattle.std.specs.Prelude.{ℕ, List, [], map, Option, Some, None, slice_get}
+use Rattle.std.specs.Prelude.{ℕ, List, [], map, Option, Some, slice_get}
 use Rattle.std.specs.Borrow.{Bor}
 use Rattle.text_lines.specs.Pieces.{Word}
 use Rattle.text_lines.specs.declared.slots.Slot.{Slot as CodeSlot}

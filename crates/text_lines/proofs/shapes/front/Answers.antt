@@ -1,11 +1,9 @@
 -- Slot by slot, by the word that was taken.
-use Rattle.std.proofs.Common.{◌+◌, ◌<◌, ◌≤◌, arith, length, ap, ◌∙◌, sym, ◌++◌, ◌∷◌, [], ◌≡◌, append-nil, length-append, List}
+use Rattle.std.proofs.Common.{arith, length, ◌∷◌, [], length-append, List}
 use Rattle.text_lines.specs.Pieces.{Word}
-use Rattle.std.specs.Prelude.{option_map, map, Some}
-use Rattle.std.proofs.lemmas.List.{map-append}
-use Rattle.text_lines.specs.Pieces.{words_in, word_and_rest}
+use Rattle.text_lines.specs.Pieces.{words_in}
 use Rattle.text_lines.specs.Slots.{value_of, values_of}
-use Rattle.text_lines.proofs.FrontSteps.{slot_taken, slot_refused, slot_short, slot_fixed, slot_held, slots_done, room_for_one, room_still}
+use Rattle.text_lines.proofs.FrontSteps.{slot_refused, slot_short, slot_fixed, slot_held, slots_done, room_for_one, room_still}
 use Rattle.text_lines.proofs.shapes.front.Goals as goal
 use Rattle.text_lines.proofs.shapes.front.Goals.{in-Fixed, in-Holds}
 
