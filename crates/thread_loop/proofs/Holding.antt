@@ -1,5 +1,5 @@
 -- Who has which task in its hands between rounds.
-use Rattle.std.proofs.Common.{◌≡◌, ◌≢◌, ℕ, zero, suc, ◌+◌, ◌^◌, ◌<◌, ◌≤◌, ◌==◌, true, false, Bool, if◌then◌else◌, List, [], ◌∷◌, map, length, get_or, Option, None, Some, refl, sym, ap, subst, ◌∙◌, inl, inr, arith, eq-eqb, ne_eqb}
+use Rattle.std.proofs.Common.{◌≡◌, ◌≢◌, ℕ, suc, ◌+◌, ◌<◌, ◌≤◌, ◌==◌, true, false, Bool, if◌then◌else◌, List, length, get_or, Option, None, Some, refl, sym, ap, subst, ◌∙◌, inl, inr, arith, eq-eqb}
 use Rattle.std.proofs.lemmas.Bool.{cases_eq, cases_lt}
 use Rattle.std.proofs.lemmas.List.{get_or-map, get_or_past}
 use Rattle.sched_base.specs.declared.names.CallerId.{CallerId}
@@ -7,12 +7,10 @@ use Rattle.step_tables.specs.declared.tables.Script.{Script}
 use Rattle.step_tables.specs.declared.tables.TaskDef.{TaskDef}
 use Rattle.task_machine.specs.declared.task.Place.{Place}
 use Rattle.task_machine.specs.declared.task.Place.TheVariants as places
-use Rattle.task_machine.specs.declared.calls.Entry.{Entry}
-use Rattle.task_machine.specs.Own.{Own, away, holding, drawing, running, own_at, own_of}
-use Rattle.task_machine.specs.Step.{State, task_at, bit}
-use Rattle.run_model.specs.Standing.{Standing, book_at}
-use Rattle.run_model.specs.Tables.{home_of, home_in, def_of, blank_task}
-use Rattle.turn_steps.specs.Times.{listed}
+use Rattle.task_machine.specs.Own.{Own, away, holding, drawing, running, own_at}
+use Rattle.task_machine.specs.Step.{task_at, bit}
+use Rattle.run_model.specs.Standing.{Standing}
+use Rattle.run_model.specs.Tables.{home_of, home_in, blank_task}
 use Rattle.turn_steps.specs.Has.{caller}
 use Rattle.standing.specs.Places.{held}
 use Rattle.standing.specs.Firm.{Firm}

@@ -1,5 +1,5 @@
 -- The words before the first round.
-use Rattle.std.proofs.Common.{◌≡◌, ℕ, ◌+◌, ◌<◌, ◌≤◌, true, false, Bool, IsTrue, List, map, length, replicate, get_or, refl, sym, ap, ◌∙◌, subst, arith, inl, inr}
+use Rattle.std.proofs.Common.{◌≡◌, ℕ, ◌+◌, ◌<◌, ◌≤◌, true, false, Bool, IsTrue, List, length, replicate, get_or, refl, sym, ap, ◌∙◌, subst, arith, inl, inr}
 use Rattle.std.proofs.lemmas.Bool.{cases_lt}
 use Rattle.std.proofs.lemmas.List.{length-set, length-replicate, length-map, get_or_past, get_or_default}
 use Rattle.step_tables.specs.declared.tables.Script.{Script}
@@ -15,7 +15,7 @@ use Rattle.wake_board.specs.Between.{StandBetween}
 use Rattle.wake_board.specs.Start.{no_holder}
 use Rattle.wake_board.proofs.Seats.{new-stands, seated-stands}
 use Rattle.thread_loop.specs.Plants.{homes_of, nobody}
-use Rattle.thread_loop.proofs.Opened.{OpensTo, opens_first, opens_rest, opens_seat, opens_all, few_tasks, few_workers, home_below}
+use Rattle.thread_loop.proofs.Opened.{OpensTo, opens_first, opens_rest, opens_seat, opens_all, few_workers, home_below}
 use Rattle.thread_loop.proofs.Holding.{home-in}
 
 -- words that stand for the machine whose first n tasks stand as they open

@@ -1,5 +1,5 @@
 -- Each legal merge of the calls of a round is a lawful round.
-use Rattle.std.proofs.Common.{◌≡◌, ◌≢◌, ℕ, zero, suc, ◌+◌, ◌<◌, ◌≤◌, ◌⊎◌, ◌==◌, ◌||◌, true, false, Bool, nat_le, IsTrue, List, [], ◌∷◌, ◌++◌, map, length, get_or, Option, None, Some, refl, sym, ap, subst, ◌∙◌, inl, inr, arith, eq-eqb, ne_eqb}
+use Rattle.std.proofs.Common.{◌≡◌, ◌≢◌, ℕ, zero, suc, ◌+◌, ◌<◌, ◌||◌, true, false, Bool, nat_le, List, [], ◌∷◌, length, get_or, refl, sym, ap, subst, ◌∙◌, inl, inr, arith, eq-eqb, ne_eqb}
 use Rattle.std.specs.List.{list_all}
 use Rattle.std.proofs.lemmas.Bool.{cases_eq, cases_lt, and_from, le-leb}
 use Rattle.std.proofs.lemmas.List.{append-nil}
@@ -12,15 +12,14 @@ use Rattle.task_machine.specs.declared.calls.Call.{Call}
 use Rattle.task_machine.specs.declared.calls.Call.TheVariants as calls
 use Rattle.task_machine.specs.declared.calls.Entry.{Entry}
 use Rattle.task_machine.specs.Task.{is_boxed}
-use Rattle.task_machine.specs.Step.{State, task_at}
+use Rattle.task_machine.specs.Step.{State}
 use Rattle.task_machine.specs.History.{calls_of, IsMerge, led}
 use Rattle.run_model.specs.Book.{Book}
 use Rattle.run_model.specs.Lawful.{Injects, RoundOf, Turns}
-use Rattle.run_model.specs.Standing.{Standing, book_at, blank_book, turn_ended, was_drawn, draws_of, is_draw_of, is_served}
+use Rattle.run_model.specs.Standing.{Standing, book_at, blank_book, turn_ended, was_drawn, is_draw_of, is_served}
 use Rattle.run_model.specs.Turn.{Turn}
 use Rattle.turn_steps.specs.Has.{caller}
 use Rattle.standing.proofs.Merge.{own_calls, other_calls}
-use Rattle.standing.proofs.Served.{served-by}
 use Rattle.wake_board.specs.Rule.{IsDraw, HasDraw}
 
 -- entries of callers up to w

@@ -1,5 +1,5 @@
 -- The nices of a script's tasks are in range.
-use Rattle.std.proofs.Common.{◌≡◌, ℕ, ◌<◌, ◌≤◌, List, map, length, get_or, pos, negsuc, ◌≤ℤ◌, IsTrue, sym, ap, subst, ◌∙◌, arith, inl, inr}
+use Rattle.std.proofs.Common.{◌≡◌, ℕ, List, map, length, get_or, pos, negsuc, ◌≤ℤ◌, IsTrue, sym, subst, arith, inl, inr}
 use Rattle.std.specs.Prelude.{ℤ}
 use Rattle.std.proofs.lemmas.Bool.{cases_lt}
 use Rattle.std.proofs.lemmas.Int.{ints}

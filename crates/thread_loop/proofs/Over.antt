@@ -1,17 +1,14 @@
 -- A round that was run, brought to its end.
-use Rattle.std.proofs.Common.{◌≡◌, ◌≢◌, ℕ, zero, suc, ◌+◌, ◌*◌, ◌%◌, ◌^◌, ◌<◌, ◌≤◌, ◌⊎◌, true, false, Bool, IsTrue, List, [], ◌∷◌, ◌++◌, map, length, get_or, Option, None, Some, refl, sym, ap, subst, ◌∙◌, inl, inr, arith}
+use Rattle.std.proofs.Common.{◌≡◌, ◌≢◌, ℕ, suc, ◌+◌, ◌*◌, ◌^◌, ◌<◌, ◌≤◌, true, false, Bool, IsTrue, List, [], ◌∷◌, map, length, get_or, None, Some, refl, sym, ap, subst, ◌∙◌, inl, inr, arith}
 use Rattle.std.proofs.lemmas.Bool.{cases_eq, cases_lt}
 use Rattle.std.proofs.lemmas.List.{get_or-map, get_or_past, length-map}
 use Rattle.std.proofs.lemmas.List.Sums.{sum_by-cons}
-use mathlib.Core.Option.{some}
-use lib.ListN.{get_elem?}
 use Rattle.step_tables.specs.declared.tables.Script.{Script}
-use Rattle.step_tables.specs.Nexts.{nexts_of}
 use Rattle.task_machine.specs.declared.task.Place.TheVariants as places
 use Rattle.task_machine.specs.declared.calls.Entry.{Entry}
 use Rattle.task_machine.specs.Logged.{Logged}
 use Rattle.task_machine.specs.Own.{Own, away, holding, drawing, running, own_at, own_of}
-use Rattle.task_machine.specs.Task.{is_boxed, is_gone, resting}
+use Rattle.task_machine.specs.Task.{is_gone, resting}
 use Rattle.task_machine.specs.Since.{is_take}
 use Rattle.task_machine.specs.declared.task.TaskState.{TaskState}
 use Rattle.task_machine.specs.Step.{State, task_at, bit}
@@ -21,15 +18,12 @@ use Rattle.run_model.specs.Book.{Book}
 use Rattle.run_model.specs.Lawful.{RoundOf}
 use Rattle.run_model.specs.Standing.{Standing, book_at, blank_book, draws_of, next_tick, turn_ended, is_served, was_drawn}
 use Rattle.run_model.specs.Tables.{home_of}
-use Rattle.run_model.specs.Turn.{Turn}
-use Rattle.turn_steps.specs.Has.{caller}
 use Rattle.step_tables.specs.Sound.{is_sound}
 use Rattle.turn_steps.proofs.Fit.{IsFit-sound, sound_parts, within-parts}
 use Rattle.standing.specs.Between.{entered, round_takes}
 use Rattle.standing.specs.Firm.{Firm}
 use Rattle.standing.specs.Going.{gone_on}
 use Rattle.standing.specs.Laws.{takes_by}
-use Rattle.standing.proofs.Boxes.{workers-led}
 use Rattle.standing.proofs.ClockKept.{clock-round, DelaysAreIn-sound}
 use Rattle.standing.proofs.Firm.{firm-round, firm-calls}
 use Rattle.standing.proofs.Lawful.{takes_all}
@@ -40,18 +34,18 @@ use Rattle.standing.proofs.Steps.{boxed-in}
 use Rattle.history_weave.specs.Places.{log_at, entry_count}
 use Rattle.history_weave.proofs.Merges.{IsMerge-one_end}
 use Rattle.wake_board.specs.Rows.{WordRow}
-use Rattle.wake_board.specs.Start.{no_holder, state_by}
+use Rattle.wake_board.specs.Start.{state_by}
 use Rattle.wake_board.specs.Between.{PlacedBy, StandBetween}
 use Rattle.wake_board.specs.Seen.{Held}
-use Rattle.wake_board.specs.Own.{known_takes, takes_in}
-use Rattle.wake_board.specs.Ends.{AllBack, AreHolders, Finishes, IsIdle, entries_in, entries_of, own_by}
+use Rattle.wake_board.specs.Own.{takes_in}
+use Rattle.wake_board.specs.Ends.{AllBack, AreHolders, Finishes, entries_in, entries_of, own_by}
 use Rattle.wake_board.proofs.Opens.{state-is}
-use Rattle.thread_loop.specs.Boards.{HasServed, draws_in, in_hand}
+use Rattle.thread_loop.specs.Boards.{draws_in, in_hand}
 use Rattle.thread_loop.specs.Idle as idle
 use Rattle.thread_loop.specs.Idle.{book_now, Opened}
 use Rattle.thread_loop.specs.Holders.{holder_by}
-use Rattle.thread_loop.specs.Plants.{Holds, IsReady, IsRun, IsTurned, IsInjected, MayEnd, EndsTurn, IsStopped, HasEnded, standing_of, homes_of}
-use Rattle.thread_loop.specs.Workers.{number_of, tick_of, turns_of, takes_of, stage_of, Fits}
+use Rattle.thread_loop.specs.Plants.{Holds, IsRun, IsTurned, MayEnd, EndsTurn, IsStopped, HasEnded, standing_of}
+use Rattle.thread_loop.specs.Workers.{tick_of, takes_of, Fits}
 use Rattle.thread_loop.specs.declared.plant.Plant.{Plant}
 use Rattle.thread_loop.specs.declared.plant.RoundInHand.{RoundInHand}
 use Rattle.thread_loop.specs.declared.worker.Worker.{Worker}

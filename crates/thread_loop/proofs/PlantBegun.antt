@@ -1,13 +1,13 @@
 -- A plant before its first round, and one that begins a round.
-use Rattle.std.proofs.Common.{◌≡◌, ℕ, zero, suc, ◌+◌, ◌*◌, ◌^◌, ◌<◌, ◌≤◌, false, IsTrue, List, [], map, length, get_or, Option, None, Some, refl, sym, ap, subst, ◌∙◌, arith, ◌∷◌, vec_capacity}
-use Rattle.std.proofs.lemmas.List.{length-map, length-replicate, ext_get_or, get_or-map}
+use Rattle.std.proofs.Common.{◌≡◌, ℕ, suc, ◌*◌, ◌<◌, ◌≤◌, false, IsTrue, List, [], map, length, get_or, refl, sym, ap, subst, ◌∙◌, arith, ◌∷◌, vec_capacity}
+use Rattle.std.proofs.lemmas.List.{length-replicate}
 use Rattle.step_tables.specs.declared.tables.Script.{Script}
 use Rattle.step_tables.specs.Nexts.{nexts_of}
 use Rattle.step_tables.specs.Sound.{is_sound}
-use Rattle.task_machine.specs.Step.{State, task_at}
+use Rattle.task_machine.specs.Step.{State}
 use Rattle.queue_model.specs.Clock.{Window, behind}
 use Rattle.run_model.specs.Book.{Book}
-use Rattle.run_model.specs.Standing.{Standing, opening, blank_book}
+use Rattle.run_model.specs.Standing.{Standing, opening}
 use Rattle.standing.specs.Between.{round_takes}
 use Rattle.standing.specs.Firm.{Firm}
 use Rattle.standing.proofs.Firm.{firm-opening}
@@ -17,10 +17,10 @@ use Rattle.wake_board.specs.Start.{no_holder, state_by}
 use Rattle.wake_board.specs.Between.{StandBetween, FewTakes}
 use Rattle.wake_board.specs.Ends.{Opens}
 use Rattle.wake_board.proofs.Opens.{state-is, one_state}
-use Rattle.thread_loop.specs.Boards.{log_of, turn_room, round_room, IsSame}
+use Rattle.thread_loop.specs.Boards.{IsSame}
 use Rattle.thread_loop.specs.Idle.{book_now, IsIdle}
-use Rattle.thread_loop.specs.Plants.{Holds, IsReady, IsRoomy, IsOpened, CanRun, standing_of, homes_of, nobody}
-use Rattle.thread_loop.specs.Workers.{takes_of, tick_of, stage_of}
+use Rattle.thread_loop.specs.Plants.{IsReady, IsRoomy, IsOpened, CanRun, standing_of, homes_of, nobody}
+use Rattle.thread_loop.specs.Workers.{tick_of}
 use Rattle.thread_loop.specs.declared.plant.Plant.{Plant}
 use Rattle.thread_loop.specs.declared.plant.RoundInHand.{RoundInHand}
 use Rattle.thread_loop.specs.declared.worker.Worker.{Worker}

@@ -1,6 +1,6 @@
 -- A player's round: what its crew made, merged into one history.
-use Rattle.std.proofs.Common.{◌≡◌, ℕ, zero, suc, ◌+◌, ◌-◌, ◌*◌, ◌^◌, ◌<◌, ◌≤◌, IsTrue, List, [], ◌∷◌, ◌++◌, map, length, get_or, Option, Some, refl, sym, ap, subst, ◌∙◌, arith}
-use Rattle.std.specs.List.{flat_map, range_with_len, sum_by}
+use Rattle.std.proofs.Common.{◌≡◌, ℕ, suc, ◌+◌, ◌^◌, ◌<◌, ◌≤◌, List, [], ◌∷◌, ◌++◌, length, Option, refl, sym, ap, subst, ◌∙◌, arith}
+use Rattle.std.specs.List.{flat_map, range_with_len}
 use Rattle.std.proofs.lemmas.List.Sums.{sum_by-cons}
 use Rattle.step_tables.specs.declared.tables.Script.{Script}
 use Rattle.task_machine.specs.declared.calls.Call.{Call}
@@ -11,7 +11,6 @@ use Rattle.task_machine.specs.Step.{State, task_at}
 use Rattle.task_machine.specs.History.{IsMerge, calls_of, led}
 use Rattle.run_model.specs.Lawful.{RoundOf}
 use Rattle.run_model.specs.Standing.{Standing}
-use Rattle.standing.specs.Between.{round_takes}
 use Rattle.history_weave.specs.Places.{log_at, entry_count}
 use Rattle.history_weave.specs.Weaving.{HasMerge, HasTakesLeft, take_of, takes_in, take_count}
 use Rattle.thread_loop.specs.Crews.{kept, kept_logs, kept_calls, Grows}

@@ -11,7 +11,7 @@ use Rattle.task_machine.specs.Step.{bit}
 use Rattle.run_model.specs.Replies.{is_rest, is_killed, has_reasons}
 use Rattle.run_model.specs.Tables.{target}
 use Rattle.run_model.specs.Book.{Book, taken_from}
-use Rattle.turn_steps.specs.Left.{Onward, by_draw, next_in, spent_in, Left, gets, wakes, runs, acts, posts, drops, retires, returns, drawn, injects, carries, over, taken, asked, heard, heard_in}
+use Rattle.turn_steps.specs.Left.{Onward, by_draw, next_in, spent_in, Left, gets, wakes, runs, acts, posts, drops, retires, returns, drawn, injects, carries, over, taken, heard_in}
 use Rattle.turn_steps.specs.Has.{drawn_by}
 use Rattle.turn_steps.proofs.Stages.{has-gets, has-wakes, has-acts, has-acted, has-run_begun, has-dropped_as, has-events, has-injected}
 use Rattle.thread_loop.specs.Workers.{takes_after}

@@ -1,5 +1,5 @@
 -- Timers between rounds.
-use Rattle.std.proofs.Common.{◌≡◌, ℕ, ◌+◌, ◌-◌, ◌^◌, ◌%◌, ◌<◌, arith, subst}
+use Rattle.std.proofs.Common.{◌≡◌, ℕ, ◌+◌, ◌^◌, ◌%◌, ◌<◌, arith, subst}
 use Rattle.queue_model.specs.Clock.{Window, behind, ahead}
 use Rattle.queue_model.proofs.ClockMoved.{window-next}
 use Rattle.run_model.specs.Book.{Book}

@@ -11,7 +11,6 @@ use Rattle.task_machine.specs.declared.task.Seen.{Seen}
 use Rattle.task_machine.specs.declared.task.Seen.TheVariants as views
 use Rattle.task_machine.specs.declared.task.Stand.TheVariants as stands
 use Rattle.queue_model.specs.Clock.{Window, behind}
-use Rattle.run_model.specs.Book.{Book}
 use Rattle.run_model.specs.Lawful.{Injects, RoundOf}
 use Rattle.run_model.specs.Standing.{Standing, book_at, next_tick, turn_ended, jumps, earliest, earlier_of, first_keys}
 use Rattle.run_model.specs.Tables.{home_in}
@@ -26,7 +25,7 @@ use Rattle.wake_board.specs.Between.{StandBetween}
 use Rattle.wake_board.specs.Seen.{Held, Laid, IsPassOf}
 use Rattle.wake_board.specs.Ends.{fresh, own_by}
 use Rattle.thread_loop.specs.Workers.{number_of, tick_of, turns_of, takes_of, stage_of, Fits}
-use Rattle.thread_loop.specs.Boards.{log_of, turn_room, round_room, IsBoardOf, HasListed, KeepsTakes, FewKnown, IsOwn, HasServed, HasGrown}
+use Rattle.thread_loop.specs.Boards.{log_of, turn_room, round_room, HasListed, KeepsTakes, FewKnown, IsOwn, HasServed, HasGrown}
 use Rattle.thread_loop.specs.Idle.{book_now, IsIdle, Opened}
 use Rattle.thread_loop.specs.declared.worker.Worker.{Worker}
 use Rattle.thread_loop.specs.declared.plant.Plant.{Plant}

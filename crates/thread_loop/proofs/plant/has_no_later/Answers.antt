@@ -1,4 +1,4 @@
-use Rattle.std.proofs.Common.{◌≡◌, ℕ, ◌<◌, List, leb, ap, sym, ◌∙◌, length, arith, inl, inr}
+use Rattle.std.proofs.Common.{◌<◌, List, leb, ap, sym, ◌∙◌, length, arith, inl, inr}
 use Rattle.std.specs.List.{list_all}
 use Rattle.std.proofs.lemmas.Bool.{cases_eq}
 use Rattle.step_tables.specs.declared.tables.Event.{Event}

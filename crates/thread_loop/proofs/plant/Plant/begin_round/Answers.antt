@@ -1,4 +1,4 @@
-use Rattle.std.proofs.Common.{refl, sym, ap, ◌∙◌, arith}
+use Rattle.std.proofs.Common.{arith}
 use Rattle.thread_loop.specs.declared.plant.RoundInHand.{RoundInHand}
 use Rattle.thread_loop.proofs.PlantBegun.{can-open-by, opened-by}
 use Rattle.thread_loop.proofs.plant.Plant.begin_round.Goals as goal

@@ -1,6 +1,6 @@
 use Rattle.std.proofs.Common.{refl, false}
 use Rattle.thread_loop.specs.declared.plant.Plant.{Plant}
-use Rattle.thread_loop.proofs.PlantBegun.{IsMade, opens, ready-first}
+use Rattle.thread_loop.proofs.PlantBegun.{opens, ready-first}
 use Rattle.thread_loop.proofs.plant.Plant.new.Goals as goal
 
 pub returns-clause-opening : goal.returns-clause-opening

@@ -1,6 +1,6 @@
 use Rattle.std.proofs.Common.{refl}
 use Rattle.thread_loop.specs.declared.plant.Plant.{Plant}
-use Rattle.thread_loop.proofs.PlantBegun.{IsLike, ready-like, standing-like}
+use Rattle.thread_loop.proofs.PlantBegun.{ready-like, standing-like}
 use Rattle.thread_loop.proofs.plant.Plant.reserve.Goals as goal
 
 pub returns-in_err-reserve_turns-clause-ready : goal.returns-in_err-reserve_turns-clause-ready

@@ -1,5 +1,4 @@
-use Rattle.std.proofs.Common.{◌≡◌, false, true, sym, ap, ◌∙◌, arith, IsTrue}
-use Rattle.run_model.specs.Versions.{is_second}
+use Rattle.std.proofs.Common.{sym, ◌∙◌}
 use Rattle.thread_loop.specs.Queues.{book_of}
 use Rattle.thread_loop.specs.Turns.{stage_in}
 use Rattle.thread_loop.proofs.Ended.{is_first, is_later, over_stage, settled_room, first_ended, second_ended, first_stage, later_stage}
