@@ -1,6 +1,5 @@
 -- A round from its begin to its end, as a watcher sees it.
-use Rattle.std.proofs.Common.{◌≡◌, ◌≢◌, ℕ, suc, ◌+◌, ◌-◌, ◌*◌, ◌^◌, ◌%◌, ◌<◌, ◌≤◌, inl, inr, false, nat_le, ◌==◌, IsTrue, List, [], ◌∷◌, length, map, get_or, None, refl, sym, ap, ◌∙◌, arith, subst, ne_eqb, eqb-true}
-use Rattle.std.proofs.lemmas.Bool.{and_parts}
+use Rattle.std.proofs.Common.{◌≡◌, ◌≢◌, ℕ, suc, ◌+◌, ◌-◌, ◌*◌, ◌^◌, ◌<◌, ◌≤◌, inl, inr, IsTrue, List, [], ◌∷◌, length, map, get_or, None, refl, sym, ap, ◌∙◌, arith, subst}
 use Rattle.std.proofs.lemmas.List.{get_or-map}
 use Rattle.std.proofs.Math.Nat.{mul-le-mul_left, mul-le-mul_right}
 use Rattle.std.specs.List.{range_with_len}
@@ -15,7 +14,6 @@ use Rattle.run_model.specs.Standing.{Standing, book_at, blank_book, turn_ended, 
 use Rattle.run_model.specs.Tables.{groups}
 use Rattle.turn_steps.specs.Left.{Stage, asked, begun, at_events}
 use Rattle.turn_steps.specs.Has.{drawn_by}
-use Rattle.turn_steps.specs.Counts.{is_injectors}
 use Rattle.turn_steps.proofs.Fit.{IsFit-sound, sound_parts, within-parts}
 use Rattle.turn_steps.proofs.Stages.{has-gets}
 use Rattle.standing.specs.Going.{IsDone}
@@ -34,7 +32,7 @@ use Rattle.thread_loop.specs.declared.worker.Worker.{Worker}
 use Rattle.run_replay.specs.Floors.{after_all, Making, Turning}
 use Rattle.thread_loop.specs.Idle.{Opened}
 use Rattle.run_replay.specs.Injections.{AtEvents, actions_left, owing, stage_in}
-use Rattle.run_replay.specs.SharedBoxes.{Counts, CountsBetween}
+use Rattle.run_replay.specs.SharedBoxes.{Counts}
 use Rattle.run_replay.specs.Watching.{standing_of, left_after, IsReady, IsWithin, IsOver, opened}
 use Rattle.run_replay.specs.declared.floor.Floor.{Floor}
 use Rattle.run_replay.specs.declared.watcher.Watcher.{Watcher}

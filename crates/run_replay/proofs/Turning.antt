@@ -24,7 +24,7 @@ use Rattle.run_model.specs.Standing.{is_draw}
 use Rattle.run_model.specs.Replies.{takes_in}
 use Rattle.run_model.specs.Tables.{home_of, row_number, call_of}
 use Rattle.run_model.specs.Book.{Book}
-use Rattle.turn_steps.specs.Left.{Onward, next_in, Left, gets, wakes, runs, acts, posts, drops, retires, returns, drawn, injects, carries, over, Stage, take_call, taken, asked, asked_in, heard, draws_now, drew, MayCall}
+use Rattle.turn_steps.specs.Left.{Onward, next_in, Left, gets, wakes, runs, acts, posts, drops, retires, returns, drawn, injects, carries, over, Stage, take_call, asked, asked_in, heard, draws_now, drew, MayCall}
 use Rattle.turn_steps.specs.Times.{listed}
 use Rattle.turn_steps.specs.Has.{caller, drawn_by, CanGive}
 use Rattle.turn_steps.proofs.Asked.{asked-draw, went-asked}

@@ -1,5 +1,5 @@
 -- Where a watcher stands, and what a line makes of it.
-use Rattle.std.proofs.Common.{◌≡◌, ◌≢◌, ◌↔◌, ◌⊎◌, ℕ, ◌+◌, ◌*◌, ◌<◌, ◌≤◌, ◌%◌, ◌^◌, inl, inr, Bool, true, false, IsTrue, MatchBool, List, [], ◌∷◌, ◌++◌, length, get_or, set, None, Some, Option, IfSome, ◌==◌, not, is_some, nat_lt, refl, sym, ap, ◌∙◌, arith, subst, eq-eqb, ne_eqb, drop, filter}
+use Rattle.std.proofs.Common.{◌≡◌, ◌≢◌, ◌↔◌, ◌⊎◌, ℕ, ◌+◌, ◌*◌, ◌<◌, ◌≤◌, inl, inr, Bool, true, false, IsTrue, MatchBool, List, [], ◌∷◌, ◌++◌, length, get_or, set, None, Some, Option, IfSome, ◌==◌, not, is_some, nat_lt, refl, sym, ap, ◌∙◌, arith, subst, eq-eqb, ne_eqb, drop, filter}
 use Rattle.std.proofs.lemmas.Bool.{cases_eq}
 use Rattle.std.proofs.lemmas.List.{get_or-set_same, get_or-set_other, length-map, length-set}
 use Rattle.sched_base.specs.declared.names.TaskId.{TaskId}

@@ -8,7 +8,6 @@ use Rattle.task_machine.specs.Since.{is_take}
 use Rattle.task_machine.specs.Task.{is_gone}
 use Rattle.task_machine.specs.Step.{State, task_at}
 use Rattle.task_machine.specs.History.{stepped}
-use Rattle.run_model.specs.Standing.{Standing}
 use Rattle.run_model.specs.Tables.{home_of, row_at, row_number}
 use Rattle.turn_steps.specs.Left.{Stage, asked}
 use Rattle.turn_steps.specs.Has.{drawn_by}

@@ -1,4 +1,4 @@
-use Rattle.std.proofs.Common.{◌≡◌, ℕ, subst}
+use Rattle.std.proofs.Common.{ℕ, subst}
 use Rattle.fronts.specs.Lines.{IsWhole}
 use Rattle.run_replay.specs.Watching.{IsOver}
 use Rattle.run_replay.specs.declared.watcher.Watcher.{Watcher}

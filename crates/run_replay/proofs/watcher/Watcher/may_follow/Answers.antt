@@ -1,4 +1,4 @@
-use Rattle.std.proofs.Common.{◌≡◌, ◌+◌, ap, ◌∙◌, arith}
+use Rattle.std.proofs.Common.{◌≡◌, arith}
 use Rattle.fronts.specs.Lines.{IsWhole}
 use Rattle.run_replay.specs.Watching.{IsOver, left_after, standing_of}
 use Rattle.run_replay.proofs.Facts.{on-true, on-false}
