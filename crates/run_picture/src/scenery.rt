@@ -13,10 +13,10 @@ use text_lines::put_bytes;
 
 /// The colours, in light and in dark, and the fonts.
 const STYLE: &[u8] = b"<style>
-svg{--paper:#fff;--ink:#1c2126;--dim:#5b6570;--line:#c3cad1;--band:#f2f4f6;font-family:'DejaVu Sans','Segoe UI',Helvetica,Arial,sans-serif;font-size:12px}
-@media (prefers-color-scheme:dark){svg{--paper:#14181c;--ink:#e8ecf0;--dim:#9aa5b0;--line:#47515b;--band:#1d232a}}
+svg{--sheet:#fff;--ink:#1c2126;--dim:#5b6570;--line:#c3cad1;--band:#f2f4f6;font-family:'DejaVu Sans','Segoe UI',Helvetica,Arial,sans-serif;font-size:12px}
+@media (prefers-color-scheme:dark){svg{--sheet:#14181c;--ink:#e8ecf0;--dim:#9aa5b0;--line:#47515b;--band:#1d232a}}
 text{fill:var(--ink)}
-.p{fill:var(--paper)}.n{fill:var(--band)}.l{stroke:var(--line);fill:none}.d{fill:var(--dim);font-size:11px}.h{font-weight:bold}
+.p{fill:var(--sheet)}.n{fill:var(--band)}.l{stroke:var(--line);fill:none}.d{fill:var(--dim);font-size:11px}.h{font-weight:bold}
 .r0{fill:#b4b9be}.r1{fill:#e69f00}.r2{fill:#56b4e9}.r3{fill:#f0e442}.r4{fill:#009e73}.r5{fill:#0072b2}.r6{fill:#cc79a7}.r7{fill:#d55e00}
 .b{fill:#000;font-size:11px;font-weight:bold}.w{fill:#fff;font-size:11px;font-weight:bold}.s{font-size:10px;font-weight:normal}
 .a path{fill:none;stroke:var(--ink);stroke-width:1.3;opacity:.75;marker-start:url(#o);marker-end:url(#v)}.f path{stroke-width:.7;opacity:.22}
