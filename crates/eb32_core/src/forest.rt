@@ -87,6 +87,8 @@ impl Forest {
     /// entry is in no root, and the insertions so far into the root are below 2^63 - 1. One step is
     /// one element that is visited: at most 33 on the way down, and then at most 1 + k of the right
     /// spine of the key, where 2^k is at most one more than the insertions so far.
+    // Inlined at once: among equal keys the call would be a good part of the time.
+    #[inline(always)]
     pub fn insert<L: Ledger>(&mut self, root: u32, entry: u32, key: u32, steps: &mut Steps<L>)
         requires root_exists { root < length self.old.parts.links }
         requires entry_exists { entry < length self.old.parts.elements }
@@ -104,6 +106,8 @@ impl Forest {
 
     /// Takes an entry out of its root, and frees the node above its leaf: where the entry's own node is
     /// still used, the freed one takes its place. One step is one element that is visited, at most 8.
+    // Inlined at once, as `insert` is.
+    #[inline(always)]
     pub fn delete<L: Ledger>(&mut self, entry: u32, steps: &mut Steps<L>)
         requires { IsPlaced entry (seen_of self.old) }
         ensures deletes { (root : ℕ) → StandsIn root entry (seen_of self.old) → seen_of self.new ≡ deleted_from root entry (seen_of self.old) }

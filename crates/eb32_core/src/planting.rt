@@ -58,6 +58,8 @@ fn branch_off(arena: &mut Arena, root: u32, part: Link, entry: u32)
 /// Puts an entry into a root, behind all items of at most its key, with the entry's own node. One
 /// step is one element that is visited: those on the way down to where the key stands or branches
 /// off, and then those of the right spine of the key.
+// Inlined at once, as `Forest::insert` is.
+#[inline(always)]
 pub fn plant<L: Ledger>(arena: &mut Arena, root: u32, entry: u32, steps: &mut Steps<L>)
     requires roomy { IsRoomy arena.old root }
     requires root_exists { root < length arena.old.links }

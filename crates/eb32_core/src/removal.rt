@@ -31,6 +31,8 @@ fn clear(arena: &mut Arena, entry: u32)
 /// does not depend on how many there are. The node above the entry's leaf is free afterwards, and so
 /// is the entry's own: where that was still used, the other takes its place. One step is one element
 /// that is visited: that of the entry once, and then those that `unlink` and `replace` visit.
+// Inlined at once, as `Forest::delete` is.
+#[inline(always)]
 pub fn uproot<L: Ledger>(arena: &mut Arena, entry: u32, steps: &mut Steps<L>)
     requires shape { HasShape arena.old }
     requires in_tree { IsIn arena.old entry }

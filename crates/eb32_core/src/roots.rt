@@ -15,10 +15,9 @@ pub(crate) fn root_above(arena: &Arena, entry: u32) -> u32
     ensures exists { result < length arena.now.links }
     ensures held { list_any (is_entry entry) (list_of arena.now result) ≡ true }
 {
-    let entries = arena.entries();
     let mut place = arena.element(entry).leaf_p;
-    while place.index() < entries {
+    while arena.is_at_node(place) {
         place = arena.above(place);
     }
-    place.index() - entries
+    place.index() - arena.entries()
 }

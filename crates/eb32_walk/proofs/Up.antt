@@ -1,6 +1,6 @@
 -- One step up from a place, and the turn onto a node's other side.
-use Rattle.std.proofs.Common.{◌≡◌, ◌≢◌, ℕ, ◌+◌, ◌-◌, ◌<◌, ◌≤◌, List, [], ◌∷◌, length, refl, sym, ap, ◌∙◌, subst, arith, ltb, cond, lt-ltb, le-ltb}
-use Rattle.std.specs.Prelude.{Some, None}
+use Rattle.std.proofs.Common.{◌≡◌, ◌≢◌, ℕ, ◌+◌, ◌-◌, ◌<◌, ◌≤◌, List, [], ◌∷◌, length, refl, sym, ap, ◌∙◌, subst, arith, tests, ltb, cond, lt-ltb, le-ltb}
+use Rattle.std.specs.Prelude.{Some, None, Bool, true, false, nat_lt}
 use Rattle.sched_base.specs.KeyedList.{KeyedItem, first_entry}
 use Rattle.eb_arena.specs.declared.links.Side.{Side}
 use Rattle.eb_arena.specs.declared.links.Side.TheVariants as sides
@@ -16,6 +16,14 @@ use Rattle.eb_arena.proofs.Reading.{list_below_is}
 use Rattle.eb_arena.proofs.Ways.{part_split}
 use Rattle.eb32_walk.specs.Ends.{IsTree, IsPlace, end_entry, last_entry, beyond}
 use Rattle.eb32_walk.proofs.Firsts.{first_of, last_of}
+
+-- a place that was tested to be at a node
+pub at_node : (b : Bool) (i n : ℕ) → b ≡ nat_lt i n → b ≡ true → i < n
+at_node b i n e h = let m : nat_lt i n ≡ true = sym e ∙ h in grind (arith, tests, m)
+
+-- a place that was tested to be on a root
+pub on_root : (b : Bool) (i n : ℕ) → b ≡ nat_lt i n → b ≡ false → n ≤ i
+on_root b i n e h = let m : nat_lt i n ≡ false = sym e ∙ h in grind (arith, tests, m)
 
 -- a way up from the place with these items beyond it on a side
 pub record OnWay (a : Parts) (q : ℕ) (place : Place) (side : Side) (xs : List KeyedItem) : Type 0 where

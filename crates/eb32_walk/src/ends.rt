@@ -14,7 +14,11 @@ pub(crate) fn end_below(arena: &Arena, link: Link, side: Side) -> u32
     ensures answer { end_entry side (list_below arena.now link) ≡ Some result }
     ensures in_tree { IsIn arena.now result }
 {
-    let mut part = link;
+    if link.is_leaf() {
+        return link.index();
+    }
+    // With the first step in front of it, the compiled loop is a load and a test.
+    let mut part = arena.child(link, side);
     while !part.is_leaf() {
         part = arena.child(part, side);
     }
@@ -28,7 +32,7 @@ pub(crate) fn neighbour(arena: &Arena, up: Up, side: Side) -> Option<u32>
     ensures in_tree { IfSome result (IsIn arena.now) }
 {
     let mut place = up;
-    while place.index() < arena.entries() {
+    while arena.is_at_node(place) {
         if place.side() != side {
             return Some(end_below(arena, arena.beside(place), side.opposite()));
         }

@@ -15,7 +15,7 @@ pub(crate) fn head_place(arena: &Arena, entry: u32) -> Up
     ensures head { AtEntry arena.now entry (λ xs k ys. IsHead arena.now result xs k ys) }
 {
     let mut place = arena.element(entry).leaf_p;
-    while place.index() < arena.entries() {
+    while arena.is_at_node(place) {
         let node = arena.element(place.index());
         if !node.has_equal_keys() {
             return place;

@@ -106,6 +106,8 @@ pub fn lookup(arena: &Arena, root: u32, key: u32) -> Option<u32>
 }
 
 /// The first entry with a key of at least this one; none where there is none.
+// Inlined at once: among equal keys the call would be a good part of the time.
+#[inline(always)]
 pub fn lookup_ge(arena: &Arena, root: u32, key: u32) -> Option<u32>
     requires shape { HasShape arena.now }
     requires exists { root < length arena.now.links }

@@ -158,6 +158,27 @@ written h l r a i e z b v f c k hz g =
     ∙ (ap (λ w. with_element a i (record e { bit = w; key = z.key })) g
     ∙ ap (λ w. with_element a i (record e { key = w })) y)
 
+-- an element out of its links, its key and its bit
+abbrev linked_up : Target → Target → Place → Place → ℕ → ℤ → Element
+linked_up l r n p k b = record { left = l; right = r; node_p = n; leaf_p = p; key = k; bit = b }
+
+-- an element is the same by any numbers of the same links
+pub same_links : (l r m s : Target) (n p o q : Place) (k : ℕ) (b : ℤ) → l ≡ m → r ≡ s → n ≡ o → p ≡ q → linked_up l r n p k b ≡ linked_up m s o q k b
+same_links l r m s n p o q k b el er en ep =
+    ap (λ x. linked_up x r n p k b) el ∙ (ap (λ x. linked_up m x n p k b) er ∙ (ap (λ x. linked_up m s x p k b) en ∙ ap (λ x. linked_up m s o x k b) ep))
+
+-- both halves of an index written with these links
+abbrev with_halves : List Half → ℕ → Target → Place → Target → Place → List Half
+with_halves h i l p r n = set (set h (2 * i) (record { down = l; up = p })) (2 * i + 1) (record { down = r; up = n })
+
+-- what is written is the same by any numbers of the same links
+pub same_halves : (h : List Half) (z : List Label) (roots i : ℕ) (l r m s : Target) (n p o q : Place) → l ≡ m → r ≡ s → n ≡ o → p ≡ q → parts_of (with_halves h i l p r n) z roots ≡ parts_of (with_halves h i m q s o) z roots
+same_halves h z roots i l r m s n p o q el er en ep =
+    ap (λ x. parts_of (with_halves h i x p r n) z roots) el
+    ∙ (ap (λ x. parts_of (with_halves h i m p x n) z roots) er
+    ∙ (ap (λ x. parts_of (with_halves h i m p s x) z roots) en
+    ∙ ap (λ x. parts_of (with_halves h i m x s o) z roots) ep))
+
 -- the label of an index written
 label_put : (h : List Half) (l : List Label) (r : ℕ) (a : Parts) (i : ℕ) (z : Label) → parts_of h l r ≡ a → Fits h l r → i < length a.elements → parts_of h (set l i z) r ≡ with_element a i (joined (half_at h (2 * i)) (half_at h (2 * i + 1)) z)
 label_put h l r a i z v f b =
@@ -304,6 +325,12 @@ put_by_test h l r a i sides.Left n x t false k v f b o e g =
 pub place_put : (h : List Half) (l : List Label) (r : ℕ) (a : Parts) (p : Place) (n : ℕ) (x : Half) (t : Target) → parts_of h l r ≡ a → Fits h l r → p ≢ places.Nowhere → place_index p < length a.elements + length a.links → (length a.elements ≤ place_index p → place_side p ≡ sides.Left) → n ≡ up_number p → x ≡ get_or h n x → parts_of (set h n (record { down = t; up = x.up })) l r ≡ linked a p t
 place_put h l r a places.Nowhere n x t v f s b o e g = absurd (s refl)
 place_put h l r a (places.Under i s) n x t v f q b o e g = put_by_test h l r a i s n x t (nat_lt i (length a.elements)) refl v f b o e g
+
+-- whether a place is at a node, by its number
+pub at_node : (p : Place) (n k m : ℕ) → p ≢ places.Nowhere → n ≡ up_number p → k ≡ m → nat_lt n (2 * k) ≡ nat_lt (place_index p) m
+at_node places.Nowhere n k m s e f = absurd (s refl)
+at_node (places.Under i sides.Left) n k m s e f = grind (arith, tests)
+at_node (places.Under i sides.Right) n k m s e f = grind (arith, tests)
 
 -- the number of the left side of a link's node
 pub left_number : (t : Target) (n : ℕ) → t ≢ targets.Nothing → is_leaf t ≡ false → n ≡ link_number t → n - 1 ≡ 2 * index_of t + side_number sides.Left

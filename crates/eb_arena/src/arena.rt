@@ -5,7 +5,7 @@ ghost use Rattle.eb_arena.specs.Parts.{element_at, link_at, unused, with_element
 ghost use Rattle.eb_arena.specs.declared.links.Target.TheVariants as targets;
 
 use crate::element::Element;
-use crate::links::{Link, Up};
+use crate::links::{Link, StoredLink, StoredUp};
 use std::alloc::{AllocError, Global};
 use std::marker::Model;
 
@@ -14,21 +14,21 @@ use std::marker::Model;
 /// hangs. So a link's number is the number of a half, up as well as down.
 #[derive(Clone, Copy, Debug)]
 pub(crate) struct Half {
-    pub(crate) down: Link,
-    pub(crate) up: Up,
+    pub(crate) down: StoredLink,
+    pub(crate) up: StoredUp,
 }
 
 impl Half {
     /// A half of an element whose entry is in no tree and whose node is unused.
     const UNUSED: Half = Half {
-        down: Link::NONE,
-        up: Up::NONE,
+        down: StoredLink::NONE,
+        up: StoredUp::NONE,
     };
 }
 
 /// The key of a leaf and the bit of a node.
 #[derive(Clone, Copy, Debug)]
-struct Label {
+pub(crate) struct Label {
     key: u32,
     bit: i16,
 }
@@ -41,7 +41,7 @@ pub struct Arena {
     /// only the left side is used.
     pub(crate) halves: Vec<Half>,
     /// The key of each leaf and the bit of each node.
-    labels: Vec<Label>,
+    pub(crate) labels: Vec<Label>,
     /// The number of roots.
     roots: u32,
 }
@@ -99,10 +99,10 @@ impl Arena {
         let entry = index as usize;
         let label = self.labels[entry];
         Element {
-            left: self.halves[2 * entry].down,
-            right: self.halves[2 * entry + 1].down,
-            node_p: self.halves[2 * entry + 1].up,
-            leaf_p: self.halves[2 * entry].up,
+            left: self.halves[2 * entry].down.link(),
+            right: self.halves[2 * entry + 1].down.link(),
+            node_p: self.halves[2 * entry + 1].up.up(),
+            leaf_p: self.halves[2 * entry].up.up(),
             key: label.key,
             bit: label.bit,
         }
@@ -126,12 +126,12 @@ impl Arena {
     {
         let entry = index as usize;
         self.halves[2 * entry] = Half {
-            down: element.left,
-            up: element.leaf_p,
+            down: element.left.stored(),
+            up: element.leaf_p.stored(),
         };
         self.halves[2 * entry + 1] = Half {
-            down: element.right,
-            up: element.node_p,
+            down: element.right.stored(),
+            up: element.node_p.stored(),
         };
         self.labels[entry].bit = element.bit;
     }
@@ -150,7 +150,7 @@ impl Arena {
         ensures { result ≡ link_at self.now root }
     {
         let node = self.labels.len() + root as usize;
-        self.halves[2 * node].down
+        self.halves[2 * node].down.link()
     }
 
     /// Hangs a part, or nothing, on a root.
@@ -159,6 +159,6 @@ impl Arena {
         ensures { self.new ≡ with_link self.old root link }
     {
         let node = self.labels.len() + root as usize;
-        self.halves[2 * node].down = link;
+        self.halves[2 * node].down = link.stored();
     }
 }

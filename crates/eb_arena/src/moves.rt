@@ -1,6 +1,6 @@
 //! Steps from part to part, and the moves of parts: where a part hangs, and what a place holds.
 
-ghost use Rattle.std.specs.Prelude.{◌≡◌, ◌≢◌, ◌+◌, ◌<◌, ◌≤◌, false, length};
+ghost use Rattle.std.specs.Prelude.{◌≡◌, ◌≢◌, ◌+◌, ◌<◌, ◌≤◌, nat_lt, false, length};
 ghost use Rattle.eb_arena.specs.Links.{is_leaf, index_of, opposite, place_index, place_side};
 ghost use Rattle.eb_arena.specs.Parts.{element_at, child, up_of, hung, linked};
 ghost use Rattle.eb_arena.specs.declared.links.Side.TheVariants as sides;
@@ -18,9 +18,9 @@ impl Arena {
         requires exists { index_of node < length self.now.elements }
         ensures { result ≡ child side (element_at self.now (index_of node)) }
     {
-        let number = node.number() as usize;
-        let left = self.halves[number - 1].down;
-        let right = self.halves[number].down;
+        let number = node.half();
+        let left = self.halves[number - 1].down.link();
+        let right = self.halves[number].down.link();
         match side {
             Side::Left => left,
             Side::Right => right,
@@ -33,8 +33,16 @@ impl Arena {
         requires exists { place_index place < length self.now.elements }
         ensures { result ≡ child (opposite (place_side place)) (element_at self.now (place_index place)) }
     {
-        let number = place.number();
-        self.halves[(number / 2 * 2 + (1 - number % 2)) as usize].down
+        let number = place.half();
+        self.halves[number / 2 * 2 + (1 - number % 2)].down.link()
+    }
+
+    /// Whether a place is at a node of an element, and not on a root.
+    pub fn is_at_node(&self, place: Up) -> bool
+        requires { place ≢ places.Nowhere }
+        ensures { result ≡ nat_lt (place_index place) (length self.now.elements) }
+    {
+        place.half() < 2 * self.labels.len()
     }
 
     /// Where the node that a place is at hangs.
@@ -43,7 +51,7 @@ impl Arena {
         requires exists { place_index place < length self.now.elements }
         ensures { result ≡ (element_at self.now (place_index place)).node_p }
     {
-        self.halves[(place.number() / 2 * 2 + 1) as usize].up
+        self.halves[place.half() / 2 * 2 + 1].up.up()
     }
 
     /// Where the leaf or the node that a link leads to hangs.
@@ -52,7 +60,7 @@ impl Arena {
         requires exists { index_of part < length self.now.elements }
         ensures { result ≡ up_of self.now part }
     {
-        self.halves[part.number() as usize].up
+        self.halves[part.half()].up.up()
     }
 
     /// Writes where the leaf or the node that a link leads to hangs, and nothing else.
@@ -61,7 +69,7 @@ impl Arena {
         requires exists { index_of part < length self.old.elements }
         ensures { self.new ≡ hung self.old part up }
     {
-        self.halves[part.number() as usize].up = up;
+        self.halves[part.half()].up = up.stored();
     }
 
     /// Writes what hangs at a place, which is a side of a node or the left side of a root, and nothing
@@ -72,6 +80,6 @@ impl Arena {
         requires left { length self.old.elements ≤ place_index up → place_side up ≡ sides.Left }
         ensures { self.new ≡ linked self.old up part }
     {
-        self.halves[up.number() as usize].down = part;
+        self.halves[up.half()].down = part.stored();
     }
 }

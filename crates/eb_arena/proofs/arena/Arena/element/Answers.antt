@@ -1,7 +1,7 @@
-use Rattle.std.proofs.Common.{w16, arith, rules}
+use Rattle.std.proofs.Common.{◌∙◌, w16, arith, rules}
 use mir.Val.{SFits}
 use Rattle.std.proofs.lemmas.Int.{to_z-of_z}
-use Rattle.eb_arena.proofs.Halves.{counted, assembled}
+use Rattle.eb_arena.proofs.Halves.{counted, assembled, same_links}
 use Rattle.eb_arena.proofs.arena.Arena.element.Goals as goal
 
 pub index-label-requires : goal.index-label-requires
@@ -22,4 +22,5 @@ index-requires-4 c = omega (arith, c.requires, c.self.inside.halves.ok.0, c.self
 pub returns : goal.returns
 returns c =
     let f : SFits w16 c.index-label.result.now.bit = search rules in
-    assembled _ _ _ c.args.self.now c.args.index c.index.result.now c.index-2.result.now c.index-3.result.now c.index-4.result.now c.index-label.result.now _ c.self.view_is c.self.invariant c.requires c.index.ensures c.index-2.ensures c.index-3.ensures c.index-4.ensures c.index-label.ensures (to_z-of_z w16 c.index-label.result.now.bit f)
+    same_links _ _ _ _ _ _ _ _ _ _ c.link.ensures c.link-2.ensures c.up.ensures c.up-2.ensures
+    ∙ assembled _ _ _ c.args.self.now c.args.index c.index.result.now c.index-2.result.now c.index-3.result.now c.index-4.result.now c.index-label.result.now _ c.self.view_is c.self.invariant c.requires c.index.ensures c.index-2.ensures c.index-3.ensures c.index-4.ensures c.index-label.ensures (to_z-of_z w16 c.index-label.result.now.bit f)

@@ -8,4 +8,5 @@ index-requires c =
 
 pub returns : goal.returns
 returns c =
-    root_read _ _ _ c.args.self.now c.args.root c.len.result c.index.result.now c.self.view_is c.self.invariant c.requires (c.len.ensures ∙ c.self.inside.labels.ok.0) c.index.ensures
+    c.link.ensures
+    ∙ root_read _ _ _ c.args.self.now c.args.root c.len.result c.index.result.now c.self.view_is c.self.invariant c.requires (c.len.ensures ∙ c.self.inside.labels.ok.0) c.index.ensures

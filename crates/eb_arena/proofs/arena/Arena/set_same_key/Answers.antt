@@ -1,7 +1,7 @@
-use Rattle.std.proofs.Common.{w16, arith, rules}
+use Rattle.std.proofs.Common.{◌∙◌, w16, arith, rules}
 use mir.Val.{SFits}
 use Rattle.std.proofs.lemmas.Int.{to_z-of_z}
-use Rattle.eb_arena.proofs.Halves.{counted, written}
+use Rattle.eb_arena.proofs.Halves.{counted, same_halves, written}
 use Rattle.eb_arena.proofs.arena.Arena.set_same_key.Goals as goal
 
 pub index_mut-requires : goal.index_mut-requires
@@ -16,4 +16,5 @@ index_mut-requires-3 c = omega (arith, c.requires.exists, c.self.inside.labels.o
 pub returns : goal.returns
 returns c =
     let f : SFits w16 c.args.element.bit = search rules in
-    written _ _ _ c.args.self.now c.args.index c.args.element c.index_mut-3.result.now _ c.self.view_is c.self.invariant c.requires.exists c.requires.same c.index_mut-3.ensures.value (to_z-of_z w16 c.args.element.bit f)
+    same_halves c.self.inside.halves.items _ _ c.args.index _ _ _ _ _ _ _ _ c.stored.ensures c.stored-3.ensures c.stored-4.ensures c.stored-2.ensures
+    ∙ written _ _ _ c.args.self.now c.args.index c.args.element c.index_mut-3.result.now _ c.self.view_is c.self.invariant c.requires.exists c.requires.same c.index_mut-3.ensures.value (to_z-of_z w16 c.args.element.bit f)
