@@ -15,7 +15,7 @@ use Rattle.task_machine.specs.declared.task.Seen.TheVariants as views
 use Rattle.task_machine.specs.declared.task.TaskState.{TaskState}
 use Rattle.task_machine.specs.Task.{is_busy, live, put, seen_of, seen_at, woken, flagged, dropped}
 use Rattle.task_machine.specs.Step.{bit}
-use Rattle.task_word.specs.Word.{is_running, is_queued, flags_with, word_with, word_of, seen_in, HasWord, StandsFor, Follows, wake_bits, kill_bits, drop_mask}
+use Rattle.task_word.specs.Word.{is_running, is_queued, flags_with, word_with, word_of, word_takes, seen_in, HasWord, StandsFor, Follows, wake_bits, kill_bits, drop_mask}
 
 bit_below : (b : Bool) → bit b < 2
 bit_below true = omega arith
@@ -66,6 +66,11 @@ seen_in-word_of (views.Live st n b m) h =
 pub seen_in-stands : (w : ℕ) (s : Seen) → StandsFor w s → seen_in w ≡ s
 seen_in-stands w views.Gone h = rw h refl
 seen_in-stands w (views.Live st n b m) h = rw h.0 (seen_in-word_of (views.Live st n b m) h.1)
+
+-- so are the takes of a task that is not gone
+pub word_takes-stands : (w : ℕ) (st : Stand) (n m : ℕ) (b : Bool) → StandsFor w (views.Live st n b m) → word_takes w ≡ m
+word_takes-stands w st n m b h =
+    ap word_takes h.0 ∙ (parts_of (is_running st) (is_queued st n b) b n m h.1.0).takes
 
 pub StandsFor-word_of : (s : Seen) → HasWord s → StandsFor (word_of s) s
 StandsFor-word_of views.Gone h = refl

@@ -38,10 +38,14 @@ word_of (views.Live st n b m) = word_with (is_running st) (is_queued st n b) b n
 abbrev pub stand_in : ℕ → Stand
 stand_in w = if bit_at w 0 == 1 then stands.Runs else (if bit_at w 1 == 1 then stands.Queued else stands.Rest)
 
+-- how often a task was taken, by the word of one that is not gone
+abbrev pub word_takes : ℕ → ℕ
+word_takes w = w / 2 ^ 16
+
 -- what is seen of a task by its word: gone where bit 3 is set, whatever else is
 abbrev pub seen_in : ℕ → Seen
 seen_in w =
-    if bit_at w 3 == 1 then views.Gone else views.Live (stand_in w) (w / 2 ^ 8 % 2 ^ 7) (bit_at w 2 == 1) (w / 2 ^ 16)
+    if bit_at w 3 == 1 then views.Gone else views.Live (stand_in w) (w / 2 ^ 8 % 2 ^ 7) (bit_at w 2 == 1) (word_takes w)
 
 -- the numbers fit their bits
 abbrev pub HasWord : Seen → Type 0

@@ -13,13 +13,15 @@
 //! | 16 to 63 | how often it was taken |
 #![tactic(auto)]
 
-ghost use Rattle.std.specs.Prelude.{◌≡◌, ◌≢◌, ◌-◌, ◌^◌, ◌<◌, bit_or, bit_and};
+ghost use Rattle.std.specs.Prelude.{◌≡◌, ◌≢◌, ℕ, ◌-◌, ◌^◌, ◌<◌, Bool, bit_or, bit_and};
 ghost use Rattle.sched_base.specs.declared.names.CallerId.{CallerId};
 ghost use Rattle.task_machine.specs.declared.task.Seen.{Seen};
+ghost use Rattle.task_machine.specs.declared.task.Seen.TheVariants as views;
+ghost use Rattle.task_machine.specs.declared.task.Stand.{Stand};
 ghost use Rattle.task_machine.specs.declared.task.Place.TheVariants as places;
 ghost use Rattle.task_machine.specs.declared.task.TaskState.{TaskState};
 ghost use Rattle.task_machine.specs.Task.{gone, IsValidTask, seen_of, woken, flagged, taken, dropped};
-ghost use Rattle.task_word.specs.Word.{is_running, is_queued, flags_with, word_of, seen_in, HasWord, StandsFor, Follows, wake_bits, kill_bits, drop_mask, taken_word};
+ghost use Rattle.task_word.specs.Word.{is_running, is_queued, flags_with, word_of, seen_in, HasWord, StandsFor, Follows, word_takes, wake_bits, kill_bits, drop_mask, taken_word};
 
 #[cfg(test)]
 mod tests;
@@ -100,8 +102,16 @@ pub fn seen_of(word: u64) -> Seen
         stand,
         pending: Reasons::from_bits(bits).unwrap(),
         killed: (word >> 2) & 1 == 1,
-        takes: word >> 16,
+        takes: takes_of(word),
     }
+}
+
+/// How often a task was taken, by the word of one that is not gone.
+pub fn takes_of(word: u64) -> u64
+    ensures value { result ≡ word_takes word }
+    ensures stands { (st : Stand) (n m : ℕ) (b : Bool) → StandsFor word (views.Live st n b m) → result ≡ m }
+{
+    word >> 16
 }
 
 /// The bits that a wake with these reasons sets.

@@ -1,7 +1,9 @@
 ghost use Rattle.std.specs.Prelude.{◌≡◌};
 ghost use Rattle.task_machine.specs.declared.task.Seen.TheVariants as views;
 
-use crate::{after_drop, after_kill, after_retire, after_take, after_wake, encode, seen_of};
+use crate::{
+    after_drop, after_kill, after_retire, after_take, after_wake, encode, seen_of, takes_of,
+};
 use sched_base::Reasons;
 use std::test::Fail;
 use task_machine::{Seen, Stand};
@@ -52,5 +54,6 @@ fn words_are_read_as_what_they_stand_for(rt: HostRuntime) -> Result<(), Fail> {
     assert!(rt; seen_of(66566) == live(Stand::Queued, Reasons::IO, true, 1));
     assert!(rt; seen_of(131072) == live(Stand::Rest, Reasons::EMPTY, false, 2));
     assert!(rt; seen_of(1034) == Seen::Gone);
+    assert!(rt; takes_of(66566) == 1 && takes_of(131072) == 2);
     Ok(())
 }

@@ -1,5 +1,5 @@
 -- The steps by which a body leaves its place, and comes back.
-use Rattle.std.proofs.Common.{◌≡◌, ◌≢◌, ◌⊎◌, ℕ, suc, ◌+◌, ◌-◌, ◌^◌, ◌<◌, ◌≤◌, ◌==◌, if◌then◌else◌, Bool, true, false, List, [], ◌∷◌, length, get_or, set, refl, sym, ap, subst, ◌∙◌, inl, inr, ⊎_elim, arith, eq-eqb}
+use Rattle.std.proofs.Common.{◌≡◌, ◌≢◌, ◌⊎◌, ℕ, ◌+◌, ◌-◌, ◌^◌, ◌<◌, ◌≤◌, ◌==◌, if◌then◌else◌, Bool, true, false, List, [], ◌∷◌, length, get_or, set, refl, sym, ap, subst, ◌∙◌, inl, inr, arith, eq-eqb}
 use Rattle.std.proofs.lemmas.List.{set-get_or}
 use mathlib.Core.Option.{Option, some, none, some-injective}
 use lib.ListN.{get_elem?}
@@ -10,8 +10,7 @@ use Rattle.task_machine.specs.declared.task.Place.TheVariants as places
 use Rattle.task_machine.specs.declared.task.TaskState.{TaskState}
 use Rattle.task_machine.specs.declared.calls.Entry.{Entry}
 use Rattle.task_machine.specs.Step.{State, task_at}
-use Rattle.task_machine.specs.History.{calls_of}
-use Rattle.task_machine.specs.Own.{Own, away, holding, drawing, running, own_at}
+use Rattle.task_machine.specs.Own.{away, drawing, running, own_at}
 use Rattle.step_tables.specs.Nexts.{row_after}
 use Rattle.wake_board.specs.declared.body.Body.{Body}
 use Rattle.wake_board.specs.declared.views.Opening.{Opening}
@@ -20,11 +19,11 @@ use Rattle.wake_board.specs.declared.views.View.{View}
 use Rattle.wake_board.specs.Start.{Start, start_of, start_in, IsShared}
 use Rattle.wake_board.specs.Rule.{now_of, IsHomed, Leads, gain, IsOut, IsHome, IsAway, IsKept}
 use Rattle.wake_board.specs.Outs.{out_of, HasBody, NoBody, without, gained, Carries}
-use Rattle.wake_board.specs.Seen.{own_log, own_view, with_out, WasTaken, OutTold, TellsOut, TellsFront, outs_after, TellsBack}
+use Rattle.wake_board.specs.Seen.{own_log, own_view, with_out, WasTaken, TellsOut, TellsFront, outs_after, TellsBack}
 use Rattle.wake_board.proofs.Tables.{at_single}
 use Rattle.wake_board.proofs.Moves.{own_first}
 use Rattle.wake_board.proofs.Looks.{own-now}
-use Rattle.wake_board.proofs.Runs.{caller, drawn_by, drawn_gain}
+use Rattle.wake_board.proofs.Runs.{caller, drawn_by}
 use Rattle.wake_board.proofs.Pace.{few_takes}
 use Rattle.wake_board.proofs.Places.{runner_near}
 use Rattle.wake_board.proofs.Fronts.{Apart, cut, carried_at, slot_of, fronted, front_old, front_new, front_apart}

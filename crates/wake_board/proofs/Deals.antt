@@ -8,24 +8,18 @@ use lib.ListN.{get_elem?}
 use Rattle.atomic_table.specs.Table.{Me, Splits}
 use Rattle.atomic_table.specs.Seated.{TableId}
 use Rattle.atomic_table.specs.declared.shared.Seat.{Seat}
-use Rattle.task_machine.specs.declared.task.Seen.{Seen}
-use Rattle.task_machine.specs.declared.task.Seen.TheVariants as views
 use Rattle.task_machine.specs.declared.calls.Entry.{Entry}
-use Rattle.task_machine.specs.Step.{task_at}
-use Rattle.task_word.specs.Word.{seen_in}
 use Rattle.wake_board.specs.declared.body.Body.{Body}
 use Rattle.wake_board.specs.declared.views.Opening.{Opening}
 use Rattle.wake_board.specs.declared.views.Out.{Out}
 use Rattle.wake_board.specs.declared.views.View.{View}
-use Rattle.wake_board.specs.Rows.{WordRow, task_word}
-use Rattle.wake_board.specs.Start.{start_of, task_by, state_by}
+use Rattle.wake_board.specs.Start.{start_of}
 use Rattle.wake_board.specs.Rule.{IsKept}
-use Rattle.wake_board.specs.Seen.{takes_seen, Held, view_left, view_right, view_both}
+use Rattle.wake_board.specs.Seen.{Held, view_left, view_right, view_both}
 use Rattle.wake_board.specs.Outs.{Carries}
 use Rattle.wake_board.specs.Own.{held_by, IsPass}
 use Rattle.wake_board.specs.Ends.{fresh}
-use Rattle.wake_board.specs.Gathered.{IsTaken, IsSeatOf, Gathers}
-use Rattle.wake_board.proofs.Opens.{task_at-state_by, length-tasks_by}
+use Rattle.wake_board.specs.Gathered.{IsSeatOf, Gathers}
 use Rattle.wake_board.proofs.Splits.{splits}
 use Rattle.wake_board.proofs.Tables.{at_behind, at_front}
 use Rattle.std.proofs.lemmas.List.{get_or_past}
@@ -47,17 +41,10 @@ right_from o me new first n is right =
     right ∙ ap (λ (x : Me Body View). let y : Me Body View = (view_right x.0, []) in y) is
 
 -- a seat that was just cut off is a pass's
-pub IsPass-fresh : (o : Opening) (me new : Me Body View) (first n : ℕ) (takes : List ℕ) → me ≡ (view_from o first (suc n), []) → new ≡ (view_right me.0, []) → IsTaken (start_of o) takes → IsPass first takes new
-IsPass-fresh o me new first n takes is right t =
-    let there : IsPass first takes (view_from o first 1, []) = record {
-      log = refl;
-      number = refl;
-      slots = tt;
-      sized = t.sized;
-      known = λ i l home worker. t.each i l ∙ (let z : (task_at (start_of o).state i).takes ≡ (task_at (start_of o).state i).takes + 0 = omega arith in z);
-      drawn = λ j x out drew. absurd (table.some-ne-none x (sym out));
-    } in
-    subst (IsPass first takes) (sym (right_from o me new first n is right)) there
+pub IsPass-fresh : (o : Opening) (me new : Me Body View) (first n : ℕ) → me ≡ (view_from o first (suc n), []) → new ≡ (view_right me.0, []) → IsPass first new
+IsPass-fresh o me new first n is right =
+    let there : IsPass first (view_from o first 1, []) = record { log = refl; number = refl; slots = tt } in
+    subst (IsPass first) (sym (right_from o me new first n is right)) there
 
 pub held-fresh : (o : Opening) (board later : TableId) (me new : Me Body View) (first n : ℕ) → later ≡ board → me ≡ (view_from o first (suc n), []) → new ≡ (view_right me.0, []) → held_by later first new.0 ≡ fresh (record { board = board; start = start_of o }) first
 held-fresh o board later me new first n same is right =
@@ -71,28 +58,14 @@ each_more P xs x n count each last j l =
       | inr ne ↦ subst (P j) (sym (get_or-append xs (x ∷ []) None j (omega arith))) (each j (omega arith))
     ]
 
--- the takes in the words are those at the opening
-pub IsTaken-words : (ws : WordRow) (homes holders : List ℕ) (nexts : List (List ℕ)) (takes : List ℕ) → length takes ≡ ws.tasks → ((i : ℕ) → i < ws.tasks → get_or takes i 0 ≡ takes_seen (seen_in (task_word ws i))) → IsTaken (record { state = state_by ws homes holders; homes = homes; nexts = nexts }) takes
-IsTaken-words ws homes holders nexts takes count each =
-    record {
-      sized = count ∙ sym (length-tasks_by ws homes holders 0 ws.tasks);
-      each = λ i l.
-          let within : i < ws.tasks = omega (arith, length-tasks_by ws homes holders 0 ws.tasks) in
-          each i within ∙ (takes-by (get_or homes i 0) (get_or holders i 0) (seen_in (task_word ws i)) ∙ ap (λ (t : Rattle.task_machine.specs.declared.task.TaskState.TaskState). t.takes) (sym (task_at-state_by ws homes holders i within)));
-    }
-  where
-    takes-by : (home holder : ℕ) (s : Seen) → takes_seen s ≡ (task_by home holder s).takes
-    takes-by home holder views.Gone = refl
-    takes-by home holder (views.Live st n b m) = refl
-
 carries_none : (xs : List (ℕ × Body)) (outs : List Out) → Carries xs outs → outs ≡ [] → xs ≡ []
 carries_none [] outs c e = refl
 carries_none (x ∷ xs) [] c e = absurd c
 carries_none (x ∷ xs) (y ∷ ys) c e = cc
 
 -- the seat of a pass
-pub IsSeatOf-held : (seat : Seat Body View) (who : ℕ) (takes : List ℕ) (p : Held) → held_by seat.table_id who seat.me.0 ≡ p → IsPass who takes seat.me → IsSeatOf p seat
-IsSeatOf-held seat who takes p is r =
+pub IsSeatOf-held : (seat : Seat Body View) (who : ℕ) (p : Held) → held_by seat.table_id who seat.me.0 ≡ p → IsPass who seat.me → IsSeatOf p seat
+IsSeatOf-held seat who p is r =
     let there : IsSeatOf (held_by seat.table_id who seat.me.0) seat = record {
       board = refl;
       first = r.number;

@@ -28,8 +28,7 @@ use Rattle.wake_board.specs.declared.views.Opening.{Opening}
 use Rattle.wake_board.specs.declared.views.View.{View}
 use Rattle.wake_board.specs.Rows.{box_at}
 use Rattle.wake_board.specs.Start.{Start, start_of, start_in, IsShared}
-use Rattle.wake_board.specs.Rule.{now_of, IsHomed, Worded, IsLogged, Leads, IsDraw, HasDraw, IsKept}
-use Rattle.wake_board.specs.Outs.{NoBody}
+use Rattle.wake_board.specs.Rule.{now_of, IsHomed, Worded, IsLogged, IsDraw, HasDraw, IsKept}
 use Rattle.wake_board.specs.Seen.{entry_by, own_log, logged, bit_mask, count_in, Told, AreAbsent, ToldMisses, missed, shared_at, TellsDraw, TellsPeep, clear_from, clear_in}
 use Rattle.wake_board.proofs.Tables.{at_below, at_append}
 use Rattle.wake_board.proofs.Tasks.{OneTask, one-after, SameLead, same_lead, each_task, housed-same}
@@ -251,7 +250,6 @@ module _ (o : Opening) (slots id : ℕ) (me : table.Me Body View) (i : ℕ) (one
       let one_task : OneTask m (stepped m e) i (put (places.Drawn k) t) = one-after m k c (no_get_draw i) named in
       let shared : IsShared (start_of o) i = subst (IsHomed (start_of o) i) place (r.words.homed i) in
       let worded : Worded (start_of o) (set s.words x y) (stepped m e) = worded-unboxed (start_of o) s.words m (stepped m e) w i (put (places.Drawn k) t) r.words (omega arith) within one_task place (drawn_seen w k t place) (λ z. refl) shared in
-      let none_out : NoBody v.outs i = λ j z a is. subst (Leads r.owner id) place (subst (λ (q : ℕ). Leads r.owner id (task_at m q).place) is (r.housed.outs id v j z at a).leads) in
       let leads = each_task m (stepped m e) i (put (places.Drawn k) t) (λ j q. SameLead (task_at m j) q) one_task (drawn_lead w k t place) (λ j ne. same_lead (task_at m j)) in
       let housed = housed-same (start_of o) r.owner m (stepped m e) s.homes s.views id v (logged v e) r.housed leads at refl in (
         logged v e,
@@ -260,10 +258,7 @@ module _ (o : Opening) (slots id : ℕ) (me : table.Me Body View) (i : ℕ) (one
         kept-call o s r id v e (set s.words x y) s.homes at one refl allowed tt tt worded housed,
         λ j lj place' mask.
             let same = asked j lj place' mask in (
-              λ b. (
-                subst (λ (q : ℕ). Told me (calls.Draw (record { 0 = q })) replies.Done (logged v e, me.1)) same (record { seat = refl; attested = attests-call o s r id v c replies.Done at one allowed }),
-                subst (NoBody v.outs) same none_out,
-              ),
+              λ b. subst (λ (q : ℕ). Told me (calls.Draw (record { 0 = q })) replies.Done (logged v e, me.1)) same (record { seat = refl; attested = attests-call o s r id v c replies.Done at one allowed }),
               λ b. (let other : bit_at word low ≡ 0 = subst (λ (q : ℕ). bit_at word (q % 64) ≡ 0) (sym same) b in absurd (omega arith)),
             ),
       )

@@ -1,9 +1,8 @@
 -- Between any two steps each body is in one place.
-use Rattle.std.proofs.Common.{◌≡◌, ◌⊎◌, ℕ, suc, ◌+◌, ◌<◌, ◌≤◌, Bool, ◌==◌, if◌then◌else◌, length, get_or, refl, sym, ap, subst, ◌∙◌, inl, inr, arith, eq-eqb}
+use Rattle.std.proofs.Common.{◌≡◌, ◌⊎◌, ℕ, suc, ◌+◌, ◌<◌, Bool, length, get_or, refl, sym, ap, subst, ◌∙◌, inl, inr, arith}
 use mathlib.Core.Option.{some, none, some-injective}
 use lib.ListN.{get_elem?}
 use Rattle.atomic_table.specs.Table as table
-use Rattle.sched_base.specs.declared.names.CallerId.{CallerId}
 use Rattle.task_machine.specs.declared.task.Place.{Place}
 use Rattle.task_machine.specs.declared.task.Place.TheVariants as places
 use Rattle.task_machine.specs.declared.task.Stand.{Stand}
@@ -11,7 +10,7 @@ use Rattle.task_machine.specs.declared.task.Seen.TheVariants as views
 use Rattle.task_machine.specs.declared.task.TaskState.{TaskState}
 use Rattle.task_machine.specs.Task.{seen_of}
 use Rattle.task_machine.specs.Step.{task_at}
-use Rattle.task_machine.specs.Own.{Own, away, drawing, running, own_at}
+use Rattle.task_machine.specs.Own.{Own, drawing, running, own_at}
 use Rattle.task_word.specs.Word.{seen_in}
 use Rattle.task_word.proofs.Words.{seen_in-stands}
 use Rattle.step_tables.specs.Nexts.{row_after}
@@ -19,8 +18,7 @@ use Rattle.wake_board.specs.declared.body.Body.{Body}
 use Rattle.wake_board.specs.declared.views.Opening.{Opening}
 use Rattle.wake_board.specs.declared.views.Out.{Out}
 use Rattle.wake_board.specs.declared.views.View.{View}
-use Rattle.wake_board.specs.Start.{Start, start_of, IsShared}
-use Rattle.wake_board.specs.Outs.{gained}
+use Rattle.wake_board.specs.Start.{start_of, IsShared}
 use Rattle.wake_board.specs.Rule.{now_of, Leads, gain, IsOut, IsAway, IsKept}
 use Rattle.wake_board.specs.Laws.{HasBy, IsHomeWith, IsOutAt, IsOutWithHolder}
 use Rattle.wake_board.proofs.Housing.{one_leader}

@@ -1,11 +1,10 @@
 -- Bodies leave their places, and come back.
-use Rattle.std.proofs.Common.{◌≡◌, ◌≢◌, ◌⊎◌, ℕ, zero, suc, ◌+◌, ◌<◌, List, [], ◌∷◌, length, set, refl, sym, ap, subst, ◌∙◌, inl, inr, ⊎_elim, arith}
+use Rattle.std.proofs.Common.{◌≡◌, ◌≢◌, ℕ, zero, suc, ◌+◌, ◌<◌, List, ◌∷◌, length, set, refl, sym, ap, subst, ◌∙◌, inl, inr, ⊎_elim, arith}
 use Rattle.std.proofs.lemmas.Bool.{cases_eq}
-use mathlib.Core.Option.{Option, some, none, some-injective, some-ne-none}
+use mathlib.Core.Option.{Option, some, none, some-injective}
 use lib.ListN.{get_elem?}
 use Rattle.atomic_table.specs.Table as table
 use Rattle.atomic_table.proofs.Lists.{at_set, set_here, set_else}
-use Rattle.sched_base.specs.declared.names.CallerId.{CallerId}
 use Rattle.task_machine.specs.declared.task.Place.{Place}
 use Rattle.task_machine.specs.declared.task.Place.TheVariants as places
 use Rattle.task_machine.specs.Step.{State, task_at}
@@ -15,8 +14,8 @@ use Rattle.wake_board.specs.declared.views.Opening.{Opening}
 use Rattle.wake_board.specs.declared.views.Out.{Out}
 use Rattle.wake_board.specs.declared.views.View.{View}
 use Rattle.wake_board.specs.Start.{Start, start_of, IsShared}
-use Rattle.wake_board.specs.Rule.{now_of, Worded, IsLogged, Leads, gain, IsOut, IsHome, IsAway, Housed, IsKept}
-use Rattle.wake_board.specs.Outs.{out_of, HasBody, NoBody, without}
+use Rattle.wake_board.specs.Rule.{now_of, Worded, IsLogged, Leads, gain, IsOut, IsAway, Housed, IsKept}
+use Rattle.wake_board.specs.Outs.{out_of}
 use Rattle.wake_board.specs.Seen.{with_out}
 use Rattle.wake_board.proofs.Tables.{at_below}
 use Rattle.wake_board.proofs.Fronts.{Apart, apart_rest}

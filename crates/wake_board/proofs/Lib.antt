@@ -1,7 +1,6 @@
 pub mod BodySteps
 pub mod Boxes
 pub mod Deals
-pub mod Drawings
 pub mod Draws
 pub mod Ends
 pub mod Fronts

@@ -128,6 +128,23 @@ known-now o s r id v i at one lives home own =
     let mine = own_first o s r id v at one in
     takes-led (start_of o).state r.history i r.legal lives ∙ ap (λ (n : ℕ). (task_at (start_of o).state i).takes + n) (takes_in-home (start_of o) (caller v.first) r.history i r.takes home own ∙ ap (takes_in i) mine.2)
 
+-- what the takes of a body that is out tell, by the place of its task
+drawn_gain : (k : CallerId) (p : Place) (n m : ℕ) → p ≡ places.Drawn k → n ≡ m + gain p → n ≡ m
+drawn_gain k p n m place h =
+    let z : n ≡ m + 0 = subst (λ (q : Place). n ≡ m + gain q) place h in omega arith
+
+-- a task that a pass may take: one of its own in its hands, or one that it has drawn
+pub held-now : (o : Opening) (s : table.State Body View) (r : IsKept o s) (id : ℕ) (v : View) (i takes : ℕ) → get_elem? s.views id ≡ some v → v.logs ≡ own_log v.logs ∷ [] → own_view v i ≡ holding → home_of (start_of o) i ≡ v.first → v.first < (start_of o).state.workers → takes ≡ known_takes (start_of o) (own_log v.logs) i → ((task_at (now_of (start_of o) r.history) i).place ≡ places.Hands (caller v.first)) × ((task_at (now_of (start_of o) r.history) i).takes ≡ takes)
+held-now o s r id v i takes at one held home worker known =
+    let place = hands_by v.first (task_at (now_of (start_of o) r.history) i).place (own-now o s r id v i at one ∙ held) in
+    (place, known-now o s r id v i at one (λ gone'. (let z = sym place ∙ gone' in cc)) home (λ h. omega arith) ∙ sym known)
+
+pub drawn-now : (o : Opening) (s : table.State Body View) (r : IsKept o s) (id : ℕ) (v : View) (i takes : ℕ) → get_elem? s.views id ≡ some v → v.logs ≡ own_log v.logs ∷ [] → own_view v i ≡ drawing → HasBody v.outs i takes → ((task_at (now_of (start_of o) r.history) i).place ≡ places.Drawn (caller v.first)) × ((task_at (now_of (start_of o) r.history) i).takes ≡ takes)
+drawn-now o s r id v i takes at one drew out =
+    let t : TaskState = task_at (now_of (start_of o) r.history) i in
+    let place = drawn_by v.first t.place (own-now o s r id v i at one ∙ drew) in
+    (place, drawn_gain (caller v.first) t.place t.takes takes place (r.housed.outs id v out.0 (out_of i takes) at out.1).takes)
+
 seen_takes : (p : Place) (t : TaskState) → p ≢ places.Gone → takes_seen (seen_at p t) ≡ t.takes
 seen_takes places.Rest t h = refl
 seen_takes (places.Hands k) t h = refl
@@ -169,9 +186,10 @@ takes_own o slots id me i takes one within held home worker known small s r size
     let t : TaskState = task_at m i in
     let e : Entry = entry_by v.first c (replies.Task (seen_in (get_or s.words (suc i) 0))) in
     let own : ¬ IsShared (start_of o) i = λ h. omega arith in
-    let place : t.place ≡ places.Hands k = hands_by v.first t.place (own-now o s r id v i at one ∙ held) in
+    let here = held-now o s r id v i takes at one held home worker known in
+    let place : t.place ≡ places.Hands k = here.0 in
+    let now : t.takes ≡ takes = here.1 in
     let lives : t.place ≢ places.Gone = λ gone'. (let z = sym place ∙ gone' in cc) in
-    let now : t.takes ≡ takes = known-now o s r id v i at one lives home own ∙ sym known in
     let step : LookStep (start_of o) m k c t (taken k t) (taken_word takes) = record {
       no_get = no_get_take i;
       named = refl;
@@ -186,11 +204,7 @@ takes_own o slots id me i takes one within held home worker known small s r size
     } in
     taking o slots id me i takes s r at one within step lives now (λ shared. absurd (own shared)) (λ one_task. housed-free (start_of o) r.owner m (stepped m e) s.homes s.views id v (logged v e) i (taken k t) r.housed one_task (free_own (start_of o) r.owner m s.homes s.views i own) (λ shared live. absurd (own shared)) at refl)
 
--- what the takes of a body that is out tell, by the place of its task
-pub drawn_gain : (k : CallerId) (p : Place) (n m : ℕ) → p ≡ places.Drawn k → n ≡ m + gain p → n ≡ m
-drawn_gain k p n m place h =
-    let z : n ≡ m + 0 = subst (λ (q : Place). n ≡ m + gain q) place h in omega arith
-
+-- and after the take
 taken_gain : (k : CallerId) (t : TaskState) (m : ℕ) → t.place ≡ places.Drawn k → t.takes ≡ m + gain t.place → (taken k t).takes ≡ m + 1
 taken_gain k t m place h =
     let z = drawn_gain k t.place t.takes m place h in omega arith
@@ -203,10 +217,11 @@ takes_drawn o slots id me i takes one within drew out early small s r sized at w
     let m : State = now_of (start_of o) r.history in
     let t : TaskState = task_at m i in
     let e : Entry = entry_by v.first c (replies.Task (seen_in (get_or s.words (suc i) 0))) in
-    let place : t.place ≡ places.Drawn k = drawn_by v.first t.place (own-now o s r id v i at one ∙ drew) in
+    let here = drawn-now o s r id v i takes at one drew out in
+    let place : t.place ≡ places.Drawn k = here.0 in
+    let now : t.takes ≡ takes = here.1 in
     let lives : t.place ≢ places.Gone = λ gone'. (let z = sym place ∙ gone' in cc) in
     let is = r.housed.outs id v out.0 (out_of i takes) at out.1 in
-    let now : t.takes ≡ takes = drawn_gain k t.place t.takes takes place is.takes in
     let step : LookStep (start_of o) m k c t (taken k t) (taken_word takes) = record {
       no_get = no_get_take i;
       named = refl;

@@ -1,17 +1,12 @@
--- What a board is opened with, what the passes bring to the seat that takes them all in, and what the words tell of
--- takes.
-use Rattle.std.specs.Prelude.{◌≡◌, ℕ, ◌+◌, ◌-◌, ◌<◌, ◌≤◌, List, [], ◌∷◌, length, slice_index, slice_index_or, Option, Some, None}
+-- What a board is opened with, and what the passes bring to the seat that takes them all in.
+use Rattle.std.specs.Prelude.{◌≡◌, ℕ, ◌+◌, ◌-◌, ◌≤◌, List, [], ◌∷◌, length, slice_index_or, Option, Some, None}
 use mathlib.Core.Option as table
 use lib.ListN.{get_elem?}
 use Rattle.atomic_table.specs.declared.shared.Seat.{Seat}
-use Rattle.task_machine.specs.declared.task.Seen.{Seen}
-use Rattle.task_machine.specs.declared.task.Seen.TheVariants as views
-use Rattle.task_machine.specs.Step.{task_at}
 use Rattle.wake_board.specs.declared.body.Body.{Body}
 use Rattle.wake_board.specs.declared.views.Opening.{Opening}
 use Rattle.wake_board.specs.declared.views.View.{View}
 use Rattle.wake_board.specs.Rows.{WordRow}
-use Rattle.wake_board.specs.Start.{Start}
 use Rattle.wake_board.specs.Seen.{Held}
 
 -- the opening has the words, homes, holders and next rows
@@ -20,11 +15,6 @@ pub record IsOpening (o : Opening) (ws : WordRow) (hs ks : List ℕ) (rows : Lis
   pub homes : o.homes.items ≡ hs
   pub holders : o.holders.items ≡ ks
   pub nexts : o.nexts.value ≡ rows
-
--- the takes of each task at the opening
-pub record IsTaken (o : Start) (takes : List ℕ) : Type 0 where
-  pub sized : length takes ≡ length o.state.tasks
-  pub each : (i : ℕ) → i < length o.state.tasks → slice_index takes i ≡ (task_at o.state i).takes
 
 -- the seat is that of the pass
 pub record IsSeatOf (p : Held) (seat : Seat Body View) : Type 0 where

@@ -1,19 +1,15 @@
 -- What a pass has by its own entries (docs/BOARD.md, "Passes").
-use Rattle.std.specs.Prelude.{◌≡◌, ℕ, ◌+◌, ◌<◌, List, [], ◌∷◌, length, slice_index}
-use mathlib.Core.Option.{some}
-use lib.ListN.{get_elem?}
+use Rattle.std.specs.Prelude.{◌≡◌, ℕ, ◌+◌, List, [], ◌∷◌}
 use Rattle.task_machine.specs.declared.calls.Entry.{Entry}
 use Rattle.task_machine.specs.Step.{task_at, bit}
 use Rattle.task_machine.specs.Since.{is_take}
-use Rattle.task_machine.specs.Own.{drawing}
 use Rattle.atomic_table.specs.Table.{Me}
 use Rattle.atomic_table.specs.Seated.{TableId}
 use Rattle.wake_board.specs.declared.body.Body.{Body}
-use Rattle.wake_board.specs.declared.views.Out.{Out}
 use Rattle.wake_board.specs.declared.views.View.{View}
-use Rattle.wake_board.specs.Start.{Start, start_in, home_of}
+use Rattle.wake_board.specs.Start.{Start, start_in}
 use Rattle.wake_board.specs.Outs.{Carries}
-use Rattle.wake_board.specs.Seen.{Held, own_log, own_view}
+use Rattle.wake_board.specs.Seen.{Held, own_log}
 
 -- how often the entries take task i
 abbrev pub takes_in : ℕ → List Entry → ℕ
@@ -29,12 +25,8 @@ abbrev pub held_by : TableId → ℕ → View → Held
 held_by board who v =
     record { board = board; who = who; start = start_in v.start; entries = own_log v.logs; misses = v.misses; outs = v.outs }
 
--- the parts of a pass go together: its seat has its caller's log alone, and the numbers of takes that are kept are those
--- of the tasks whose home is its own, and of the drawn tasks whose bodies are out with it
-pub record IsPass (who : ℕ) (takes : List ℕ) (me : Me Body View) : Type 0 where
+-- the parts of a pass go together: its seat has its caller's log alone, and the slots of the bodies that are out with it
+pub record IsPass (who : ℕ) (me : Me Body View) : Type 0 where
   pub log : me.0.logs ≡ own_log me.0.logs ∷ []
   pub number : me.0.first ≡ who
   pub slots : Carries me.1 me.0.outs
-  pub sized : length takes ≡ length (start_in me.0.start).state.tasks
-  pub known : (i : ℕ) → i < length (start_in me.0.start).state.tasks → home_of (start_in me.0.start) i ≡ who → who < (start_in me.0.start).state.workers → slice_index takes i ≡ known_takes (start_in me.0.start) (own_log me.0.logs) i
-  pub drawn : (j : ℕ) (x : Out) → get_elem? me.0.outs j ≡ some x → own_view me.0 x.task ≡ drawing → slice_index takes x.task ≡ x.takes

@@ -24,7 +24,7 @@ use Rattle.wake_board.specs.declared.views.View.{View}
 use Rattle.step_tables.specs.Nexts.{row_after}
 use Rattle.wake_board.specs.Rows.{box_at}
 use Rattle.wake_board.specs.Start.{Start, start_in, home_of, IsShared}
-use Rattle.wake_board.specs.Outs.{out_of, HasBody, NoBody, without, Carries}
+use Rattle.wake_board.specs.Outs.{out_of, HasBody, without, Carries}
 
 -- a pass: of which board it is, its caller's number, with what the board was opened, its own entries, the tasks that it
 -- found absent from the shared box, and the bodies that are out with it
@@ -150,11 +150,10 @@ pub record ToldMisses (me : Me Body View) (tasks : List ℕ) (new : Me Body View
 abbrev pub shared_at : View → ℕ → ℕ
 shared_at v g = box_at (count_in v) (start_in v.start).state.workers g
 
--- a draw by its word and operand: the task is drawn where its bit was set, and had no body out then; and it is a miss where
--- the bit was clear
+-- a draw by its word and operand: the task is drawn where its bit was set, and is a miss where the bit was clear
 abbrev pub TellsDraw : Step Body → Me Body View → ℕ → Me Body View → Type 0
 TellsDraw st me n new =
-    (i : ℕ) → i < count_in me.0 → st.word ≡ shared_at me.0 (i / 64) → st.first ≡ bit_not w64 (bit_mask (i % 64)) → (bit_at n (i % 64) ≡ 1 → Told me (calls.Draw (record { 0 = i })) replies.Done new × NoBody me.0.outs i) × (bit_at n (i % 64) ≡ 0 → ToldMisses me (i ∷ []) new)
+    (i : ℕ) → i < count_in me.0 → st.word ≡ shared_at me.0 (i / 64) → st.first ≡ bit_not w64 (bit_mask (i % 64)) → (bit_at n (i % 64) ≡ 1 → Told me (calls.Draw (record { 0 = i })) replies.Done new) × (bit_at n (i % 64) ≡ 0 → ToldMisses me (i ∷ []) new)
 
 -- the tasks of group g, of n tasks in all, whose bits are clear in a word, from bit j on and for so many bits
 abbrev pub clear_from : ℕ → ℕ → ℕ → ℕ → ℕ → List ℕ

@@ -20,7 +20,7 @@ use crate::pass::Pass;
 use crate::passes::Passes;
 use crate::slots::{slot_in, slot_out};
 use crate::views::{
-    Draws, Drops, Gets, Kills, Opening, Peeps, Posts, Retires, Ruling, Takes, View, Wakes,
+    Draws, Drops, Gets, Kills, Looks, Opening, Peeps, Posts, Retires, Ruling, Takes, View, Wakes,
 };
 use crate::words::Words;
 use atomic_table::Table;
@@ -29,7 +29,7 @@ use std::alloc::{AllocError, Global};
 use std::marker::{Brand, Model};
 use step_tables::Nexts;
 use task_machine::Seen;
-use task_word::{DROP_MASK, GONE, KILL_BITS, after_take, seen_of, wake_bits_of};
+use task_word::{DROP_MASK, GONE, KILL_BITS, after_take, seen_of, takes_of, wake_bits_of};
 
 /// How many tasks a group has.
 const GROUP: u32 = 64;
@@ -69,8 +69,7 @@ impl Board {
     {
         let opening = opening_of(alloc, &words, homes, holders, nexts)?;
         let (table, seat) = lay(alloc, &words, &opening)?;
-        let takes = words.taken(alloc)?;
-        let places = deal_passes(alloc, &table.shared, seat, &takes, words.workers() + 1)?;
+        let places = deal_passes(alloc, &table.shared, seat, words.workers() + 1)?;
         Ok((Board { table, words }, Passes { places }))
     }
 
@@ -182,9 +181,7 @@ impl Board {
         ensures shared { home_of self.now.start id.0 ≡ self.now.start.state.workers }
         ensures taken { WasTaken pass.old.start pass.old.who pass.old.entries id.0 result.takes }
     {
-        let body = slot_out::<Brand>(&self.table.shared, &mut pass.seat, id.0);
-        pass.takes[id.0 as usize] = body.takes;
-        body
+        slot_out::<Brand>(&self.table.shared, &mut pass.seat, id.0)
     }
 
     /// Puts the body of a task, which is out with the pass, back into its place, with the takes that the pass knows and the
@@ -200,7 +197,8 @@ impl Board {
     }
 
     /// Takes a task to run it: one of the caller's own, which is in its hands, or one that it has drawn and whose body is
-    /// out with it. The reply has the takes that the pass knows.
+    /// out with it. The reply has the takes that the pass knows. The task's word is looked at first, since it has these takes
+    /// until the task is taken.
     pub fn take(&self, pass: &mut Pass, id: TaskId) -> Seen
         requires board { IsPassOf self.now pass.old }
         requires exists { id.0 < length self.now.start.state.tasks }
@@ -208,13 +206,10 @@ impl Board {
         ensures calls { Calls pass.old (calls.Take id) (replies.Task result) pass.new }
         ensures takes { (t : ℕ) → MayTake pass.old id.0 t → takes_seen result ≡ t }
     {
-        let index = id.0 as usize;
-        let takes = pass.takes[index];
-        let word = self
-            .table
-            .shared
-            .swap::<Takes>(&mut pass.seat, index + 1, after_take(takes));
-        pass.takes[index] = takes + 1;
+        let at = id.0 as usize + 1;
+        let before = self.table.shared.load::<Looks>(&mut pass.seat, at);
+        let taken = after_take(takes_of(before));
+        let word = self.table.shared.swap::<Takes>(&mut pass.seat, at, taken);
         seen_of(word)
     }
 

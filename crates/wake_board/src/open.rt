@@ -1,13 +1,12 @@
 //! How a board is made of words, and ends in words.
 
-ghost use Rattle.std.specs.Prelude.{◌≡◌, ℕ, suc, ◌<◌, ◌≤◌, [], length, slice_index, slice_index_or, IfOk, Option, Some, None, IsSome};
-ghost use Rattle.task_machine.specs.Step.{task_at};
+ghost use Rattle.std.specs.Prelude.{◌≡◌, ℕ, suc, ◌<◌, [], length, slice_index_or, IfOk, Option, Some, None, IsSome};
 ghost use Rattle.wake_board.specs.Seen.{Held};
 ghost use Rattle.wake_board.specs.Start.{start_of};
 ghost use Rattle.wake_board.specs.Between.{StandBetween, FewTakes};
 ghost use Rattle.wake_board.specs.Rule.{first_view};
 ghost use Rattle.wake_board.specs.Ends.{fresh, AllBack};
-ghost use Rattle.wake_board.specs.Gathered.{IsOpening, IsTaken, IsSeatOf, Gathers};
+ghost use Rattle.wake_board.specs.Gathered.{IsOpening, IsSeatOf, Gathers};
 
 use crate::body::Body;
 use crate::pass::Pass;
@@ -64,25 +63,16 @@ pub(crate) fn lay(
     }
 }
 
-/// The same numbers once more.
-fn copied(takes: &Vec<u64>) -> Result<Vec<u64>, AllocError>
-    ensures { IfOk result (λ v. v.items ≡ takes.now.items) }
-{
-    takes.clone()
-}
-
 /// One fresh pass for each caller, from the seat that has the logs of all.
 pub(crate) fn deal_passes(
     alloc: Global,
     shared: &Shared<Body, View, Opening, Ruling>,
     seat: Seat<Body, View>,
-    takes: &Vec<u64>,
     callers: u32,
 ) -> Result<Vec<Option<Pass>>, AllocError>
     requires seat { (seat.table_id ≡ shared.now.table_id) × (seat.me ≡ (first_view shared.now.key, [])) }
     requires words { 0 < shared.now.table_id.words }
     requires callers { callers ≡ suc (start_of shared.now.key).state.workers }
-    requires takes { IsTaken (start_of shared.now.key) takes.now.items }
     ensures count { IfOk result (λ v. length v.items ≡ callers) }
     ensures each { IfOk result (λ v. (k : ℕ) → k < callers → slice_index_or v.items k None ≡ Some (fresh (record { board = shared.now.table_id; start = start_of shared.now.key }) k)) }
 {
@@ -92,7 +82,6 @@ pub(crate) fn deal_passes(
         let pass = Pass {
             seat: shared.split_seat::<Leaves>(&mut seat),
             who: CallerId(k),
-            takes: copied(takes)?,
         };
         places.push(Some(pass))?;
     }
@@ -105,11 +94,7 @@ fn seat_of(place: Option<Pass>) -> Seat<Body, View>
     ensures { (p : Held) → place ≡ Some p → IsSeatOf p result }
 {
     let Some(pass) = place else { unreachable!() };
-    let Pass {
-        seat,
-        who: _,
-        takes: _,
-    } = pass;
+    let Pass { seat, who: _ } = pass;
     seat
 }
 

@@ -13,7 +13,6 @@ use std::marker::Model;
 pub struct Pass {
     pub(crate) seat: Seat<Body, View>,
     pub(crate) who: CallerId,
-    pub(crate) takes: Vec<u64>,
 }
 
 impl Model for Pass {
@@ -24,7 +23,7 @@ impl Model for Pass {
 
     ghost view = { λ p. held_by p.seat.table_id p.who.0 p.seat.me.0 };
 
-    ghost invariant = { λ p. IsPass p.who.0 p.takes.items p.seat.me };
+    ghost invariant = { λ p. IsPass p.who.0 p.seat.me };
 }
 
 impl Pass {

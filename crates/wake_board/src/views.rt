@@ -64,6 +64,15 @@ impl Play<Body, View> for Kills {
     ghost then = { TellsCall calls.Kill };
 }
 
+/// A look at a task's word, before the task is taken.
+pub struct Looks;
+
+impl Play<Body, View> for Looks {
+    ghost use Rattle.wake_board.specs.Bodies.{TellsLook};
+
+    ghost then = { TellsLook };
+}
+
 /// A take.
 pub struct Takes;
 

@@ -1,9 +1,7 @@
 //! The words of a board between rounds.
 
-ghost use Rattle.std.specs.Prelude.{◌≡◌, ℕ, ◌*◌, ◌/◌, ◌%◌, ◌<◌, ◌≤◌, false, IfOk, length, slice_index, slice_index_or};
+ghost use Rattle.std.specs.Prelude.{◌≡◌, ℕ, ◌*◌, ◌/◌, ◌%◌, ◌<◌, ◌≤◌, false, IfOk, length, slice_index_or};
 ghost use Rattle.std.specs.Mem.Slots.{slots_items, slots_filled, slots_len, IsFull};
-ghost use Rattle.task_word.specs.Word.{seen_in};
-ghost use Rattle.wake_board.specs.Seen.{takes_seen};
 ghost use Rattle.std.specs.Int.{bit_at};
 ghost use Rattle.wake_board.specs.Rows.{blank_row, task_word, box_word, box_at, width, row_seated, row_dealt, first_body};
 
@@ -12,8 +10,6 @@ use atomic_table::Closed;
 use sched_base::TaskId;
 use std::alloc::{AllocError, Global};
 use std::marker::Model;
-use task_machine::Seen;
-use task_word::seen_of;
 
 /// How many tasks a group has.
 const GROUP: usize = 64;
@@ -90,18 +86,6 @@ impl Words {
         ensures within { result < width self.now.workers self.now.tasks }
     {
         box_index(self.workers, self.tasks, boxno, group as usize)
-    }
-
-    /// How often each task was taken.
-    pub(crate) fn taken(&self, alloc: Global) -> Result<Vec<u64>, AllocError>
-        ensures count { IfOk result (λ v. length v.items ≡ self.now.tasks) }
-        ensures each { IfOk result (λ v. (i : ℕ) → i < self.now.tasks → slice_index v.items i ≡ takes_seen (seen_in (task_word self.now i))) }
-    {
-        let mut takes = Vec::with_capacity(alloc, self.tasks as usize)?;
-        for i in 0..self.tasks {
-            takes.push(takes_in(self.task(TaskId(i))))?;
-        }
-        Ok(takes)
     }
 
     /// The words and bodies of a table that is closed, in the memory of these.
@@ -206,16 +190,6 @@ fn box_index(workers: u32, tasks: u32, boxno: u32, group: usize) -> usize
 {
     let groups = (tasks as usize + GROUP - 1) / GROUP;
     1 + tasks as usize + (boxno as usize * groups + group)
-}
-
-/// How often a task was taken, by its word; 0 where it is gone.
-fn takes_in(word: u64) -> u64
-    ensures { result ≡ takes_seen (seen_in word) }
-{
-    match seen_of(word) {
-        Seen::Gone => 0,
-        Seen::Live { takes, .. } => takes,
-    }
 }
 
 /// Reads all words of a closed table.

@@ -6,7 +6,6 @@ use Rattle.wake_board.specs.Start.{start_of}
 use Rattle.wake_board.specs.Seen.{Held}
 use Rattle.wake_board.specs.Own.{held_by}
 use Rattle.wake_board.specs.Ends.{fresh}
-use Rattle.wake_board.specs.Gathered.{IsTaken}
 use Rattle.wake_board.proofs.Deals.{view_from, splits_from, left_from, IsPass-fresh, held-fresh, each_more}
 use Rattle.wake_board.proofs.open.deal_passes.Goals as goal
 
@@ -29,8 +28,7 @@ invariant_of-pass c =
     let more = r.1 in
     let n : r.0 ≡ suc (r.0 - 1) = omega arith in
     let is : c.loop-k.seat.me ≡ (view_from o c.loop-k.k (suc (r.0 - 1)), []) = subst (λ (m : ℕ). c.loop-k.seat.me ≡ (view_from o c.loop-k.k m, [])) n r.2 in
-    let takes : IsTaken (start_of o) c.in_ok-copied.field-0.items = subst (IsTaken (start_of o)) (sym c.in_ok-copied.ensures) c.requires.takes in
-    IsPass-fresh o c.loop-k.seat.me c.split_seat.result.me c.loop-k.k (r.0 - 1) c.in_ok-copied.field-0.items is c.split_seat.ensures.4 takes
+    IsPass-fresh o c.loop-k.seat.me c.split_seat.result.me c.loop-k.k (r.0 - 1) is c.split_seat.ensures.4
 
 pub loop-k-preserved : goal.loop-k-preserved
 loop-k-preserved c =

@@ -12,7 +12,7 @@ slot_in-requires-clause-named c = refl
 pub invariant_of-pass : goal.invariant_of-pass
 invariant_of-pass c =
     let seat = c.pass.inside.seat in
-    IsPass-in c.pass.inside.who.0 c.pass.inside.takes.items seat.me c.slot_in.new.seat.me c.args.id.0 c.pass.invariant c.slot_in.ensures.view c.slot_in.ensures.slots
+    IsPass-in c.pass.inside.who.0 seat.me c.slot_in.new.seat.me c.args.id.0 c.pass.invariant c.slot_in.ensures.view c.slot_in.ensures.slots
 
 pub returns-clause-home : goal.returns-clause-home
 returns-clause-home c =

@@ -6,7 +6,6 @@ use Rattle.task_machine.specs.declared.calls.Call.TheVariants as calls
 use Rattle.task_machine.specs.declared.calls.Reply.TheVariants as replies
 use Rattle.wake_board.specs.Rows.{box_at}
 use Rattle.wake_board.specs.Start.{Start, start_of, start_in}
-use Rattle.wake_board.specs.Outs.{NoBody}
 use Rattle.wake_board.specs.Seen.{count_in, shared_at}
 use Rattle.wake_board.proofs.Draws.{draws_on}
 use Rattle.wake_board.proofs.Grown.{IsPass-told, IsPass-missed, Calls-told, Misses-told}
@@ -38,8 +37,8 @@ invariant_of-pass c =
     let place : c.box_place-at.result ≡ shared_at seat.me.0 (c.args.id.0 / 64) = c.box_place-at.ensures.place ∙ (ap (λ (n : ℕ). box_at n c.workers.result (c.args.id.0 / 64)) (sym count) ∙ ap (λ (w : ℕ). box_at (count_in seat.me.0) w (c.args.id.0 / 64)) workers) in
     let told = c.fetch_and-word.ensures.2 c.args.id.0 (omega arith) place refl in
     elim (cases_eq (bit_at c.fetch_and-word.result (c.args.id.0 % 64)) 1) [
-      | inl one ↦ IsPass-told c.pass.inside.who.0 c.pass.inside.takes.items seat.me c.fetch_and-word.new.seat.me (calls.Draw c.args.id) replies.Done c.pass.invariant (told.0 one).0 (λ i. refl) (λ i draw. subst (NoBody seat.me.0.outs) (sym draw) (told.0 one).1)
-      | inr ne ↦ IsPass-missed c.pass.inside.who.0 c.pass.inside.takes.items seat.me c.fetch_and-word.new.seat.me (c.args.id.0 ∷ []) c.pass.invariant (told.1 (omega (arith, bit_at-lt c.fetch_and-word.result (c.args.id.0 % 64))))
+      | inl one ↦ IsPass-told c.pass.inside.who.0 seat.me c.fetch_and-word.new.seat.me (calls.Draw c.args.id) replies.Done c.pass.invariant (told.0 one)
+      | inr ne ↦ IsPass-missed c.pass.inside.who.0 seat.me c.fetch_and-word.new.seat.me (c.args.id.0 ∷ []) c.pass.invariant (told.1 (omega (arith, bit_at-lt c.fetch_and-word.result (c.args.id.0 % 64))))
     ]
 
 pub returns-clause-drawn : goal.returns-clause-drawn
@@ -55,7 +54,7 @@ returns-clause-drawn c =
     let told = c.fetch_and-word.ensures.2 c.args.id.0 (omega arith) place refl in
     λ yes'.
     let one : bit_at c.fetch_and-word.result (c.args.id.0 % 64) ≡ 1 = sym (shr_and_one c.fetch_and-word.result (c.args.id.0 % 64)) ∙ eqb-true _ 1 yes' in
-    rw (← c.pass.view_is) (Calls-told seat.table_id c.fetch_and-word.new.seat.table_id c.pass.inside.who.0 c.pass.inside.takes.items seat.me c.fetch_and-word.new.seat.me (calls.Draw c.args.id) replies.Done c.fetch_and-word.ensures.0 c.pass.invariant (told.0 one).0)
+    rw (← c.pass.view_is) (Calls-told seat.table_id c.fetch_and-word.new.seat.table_id c.pass.inside.who.0 seat.me c.fetch_and-word.new.seat.me (calls.Draw c.args.id) replies.Done c.fetch_and-word.ensures.0 c.pass.invariant (told.0 one))
 
 pub returns-clause-missed : goal.returns-clause-missed
 returns-clause-missed c =
@@ -70,4 +69,4 @@ returns-clause-missed c =
     let told = c.fetch_and-word.ensures.2 c.args.id.0 (omega arith) place refl in
     λ no'.
     let ne : bit_at c.fetch_and-word.result (c.args.id.0 % 64) ≢ 1 = λ one. (let z = sym (eq-eqb _ 1 (shr_and_one c.fetch_and-word.result (c.args.id.0 % 64) ∙ one)) ∙ no' in cc) in
-    rw (← c.pass.view_is) (Misses-told seat.table_id c.fetch_and-word.new.seat.table_id c.pass.inside.who.0 c.pass.inside.takes.items seat.me c.fetch_and-word.new.seat.me (c.args.id.0 ∷ []) c.fetch_and-word.ensures.0 c.pass.invariant (told.1 (omega (arith, bit_at-lt c.fetch_and-word.result (c.args.id.0 % 64)))))
+    rw (← c.pass.view_is) (Misses-told seat.table_id c.fetch_and-word.new.seat.table_id c.pass.inside.who.0 seat.me c.fetch_and-word.new.seat.me (c.args.id.0 ∷ []) c.fetch_and-word.ensures.0 c.pass.invariant (told.1 (omega (arith, bit_at-lt c.fetch_and-word.result (c.args.id.0 % 64)))))

@@ -17,7 +17,7 @@ fetch_and-word-requires c =
     let within : c.args.id.0 < length (start_of key).state.tasks = rw (← c.self.view_is) at c.requires.exists in
     let same : seat.table_id ≡ c.self.inside.table.shared.table_id = rw (← c.self.view_is, ← c.pass.view_is) at c.requires.board.board in
     let sized = c.self.invariant in
-    let has = own_view-held seat.table_id c.pass.inside.who.0 c.pass.inside.takes.items seat.me c.args.id.0 c.pass.invariant in
+    let has = own_view-held seat.table_id c.pass.inside.who.0 seat.me c.args.id.0 c.pass.invariant in
     let runs : own_view seat.me.0 c.args.id.0 ≡ running = has ∙ (rw (← c.pass.view_is) at c.requires.runs) in
     let none_out : NoBody seat.me.0.outs c.args.id.0 = rw (← c.pass.view_is) at c.requires.body in (
       same,
@@ -27,8 +27,8 @@ fetch_and-word-requires c =
 
 pub invariant_of-pass : goal.invariant_of-pass
 invariant_of-pass c =
-    IsPass-told c.pass.inside.who.0 c.pass.inside.takes.items c.pass.inside.seat.me c.fetch_and-word.new.seat.me (calls.DropRun c.args.id) (replies.Task (seen_in c.fetch_and-word.result)) c.pass.invariant (c.fetch_and-word.ensures.2 c.args.id.0 refl) (λ i. refl) (λ i draw. absurd draw)
+    IsPass-told c.pass.inside.who.0 c.pass.inside.seat.me c.fetch_and-word.new.seat.me (calls.DropRun c.args.id) (replies.Task (seen_in c.fetch_and-word.result)) c.pass.invariant (c.fetch_and-word.ensures.2 c.args.id.0 refl)
 
 pub returns : goal.returns
 returns c =
-    rw (c.seen_of.ensures.value, ← c.pass.view_is) (Calls-told c.pass.inside.seat.table_id c.fetch_and-word.new.seat.table_id c.pass.inside.who.0 c.pass.inside.takes.items c.pass.inside.seat.me c.fetch_and-word.new.seat.me (calls.DropRun c.args.id) (replies.Task (seen_in c.fetch_and-word.result)) c.fetch_and-word.ensures.0 c.pass.invariant (c.fetch_and-word.ensures.2 c.args.id.0 refl))
+    rw (c.seen_of.ensures.value, ← c.pass.view_is) (Calls-told c.pass.inside.seat.table_id c.fetch_and-word.new.seat.table_id c.pass.inside.who.0 c.pass.inside.seat.me c.fetch_and-word.new.seat.me (calls.DropRun c.args.id) (replies.Task (seen_in c.fetch_and-word.result)) c.fetch_and-word.ensures.0 c.pass.invariant (c.fetch_and-word.ensures.2 c.args.id.0 refl))

@@ -1,11 +1,10 @@
 use Rattle.std.proofs.Common.{◌≡◌, ◌+◌, ◌∙◌, ℕ, suc, List, length, ap, sym, subst, arith}
 use Rattle.wake_board.specs.declared.views.Opening.{Opening}
 use Rattle.wake_board.specs.Rows.{WordRow, width}
-use Rattle.wake_board.specs.Start.{Start, start_of, state_by}
+use Rattle.wake_board.specs.Start.{start_of}
 use Rattle.wake_board.specs.Between.{StandBetween}
-use Rattle.wake_board.specs.Gathered.{IsOpening, IsTaken}
+use Rattle.wake_board.specs.Gathered.{IsOpening}
 use Rattle.wake_board.proofs.Opens.{opening_stands, length-tasks_by}
-use Rattle.wake_board.proofs.Deals.{IsTaken-words}
 use Rattle.wake_board.proofs.board.Board.from_words.Goals as goal
 
 pub lay-requires : goal.lay-requires
@@ -18,15 +17,6 @@ lay-requires c =
       stands = subst (λ (w : WordRow). StandBetween w o.homes.items o.holders.items o.nexts.value (start_of o).state) is.words both.0;
       few = both.1;
     }
-
-pub deal_passes-requires-clause-takes : goal.deal_passes-requires-clause-takes
-deal_passes-requires-clause-takes c =
-    let o = c.in_ok-opening.opening in
-    let is : IsOpening o c.args.words c.args.homes.now c.args.holders.now c.args.nexts.now = c.in_ok-opening.ensures in
-    let takes : List ℕ = c.in_ok-takes.takes.items in
-    let made = IsTaken-words c.args.words o.homes.items o.holders.items o.nexts.value takes c.in_ok-takes.ensures.count c.in_ok-takes.ensures.each in
-    let opened : IsTaken (start_of o) takes = subst (λ (w : WordRow). IsTaken (let x : Start = record { state = state_by w o.homes.items o.holders.items; homes = o.homes.items; nexts = o.nexts.value } in x) takes) (sym is.words) made in
-    subst (λ (k : Opening). IsTaken (start_of k) takes) (sym c.in_ok-table.ensures.2) opened
 
 pub invariant_of-result : goal.invariant_of-result
 invariant_of-result c =

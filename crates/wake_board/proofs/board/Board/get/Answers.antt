@@ -1,4 +1,4 @@
-use Rattle.std.proofs.Common.{◌≡◌, ◌<◌, ◌+◌, ◌*◌, ℕ, length, refl, sym, ap, subst, ◌∙◌, arith}
+use Rattle.std.proofs.Common.{◌≡◌, ◌<◌, ◌+◌, ◌*◌, ℕ, length, sym, ap, subst, ◌∙◌, arith}
 use Rattle.task_machine.specs.declared.calls.Call.TheVariants as calls
 use Rattle.task_machine.specs.declared.calls.Reply.TheVariants as replies
 use Rattle.wake_board.specs.Rows.{box_at}
@@ -35,7 +35,7 @@ invariant_of-pass c =
     let sized = c.self.invariant in
     let count : count_in seat.me.0 ≡ c.self.inside.words.tasks = ap (λ (o : Start). length o.state.tasks) start ∙ sized.tasks in
     let told = c.swap.ensures.2 c.args.group (omega arith) (c.box_place-at.ensures.place ∙ (ap (λ (n : ℕ). box_at n c.pass.inside.who.0 c.args.group) (sym count) ∙ ap (λ (k : ℕ). box_at (count_in seat.me.0) k c.args.group) (sym number))) in
-    IsPass-told c.pass.inside.who.0 c.pass.inside.takes.items seat.me c.swap.new.seat.me (calls.Get c.args.group) (replies.Group c.swap.result) c.pass.invariant told.0 (λ i. refl) (λ i draw. absurd draw)
+    IsPass-told c.pass.inside.who.0 seat.me c.swap.new.seat.me (calls.Get c.args.group) (replies.Group c.swap.result) c.pass.invariant told.0
 
 pub returns-clause-calls : goal.returns-clause-calls
 returns-clause-calls c =
@@ -48,7 +48,7 @@ returns-clause-calls c =
     let sized = c.self.invariant in
     let count : count_in seat.me.0 ≡ c.self.inside.words.tasks = ap (λ (o : Start). length o.state.tasks) start ∙ sized.tasks in
     let told = c.swap.ensures.2 c.args.group (omega arith) (c.box_place-at.ensures.place ∙ (ap (λ (n : ℕ). box_at n c.pass.inside.who.0 c.args.group) (sym count) ∙ ap (λ (k : ℕ). box_at (count_in seat.me.0) k c.args.group) (sym number))) in
-    rw (← c.pass.view_is) (Calls-told seat.table_id c.swap.new.seat.table_id c.pass.inside.who.0 c.pass.inside.takes.items seat.me c.swap.new.seat.me (calls.Get c.args.group) (replies.Group c.swap.result) c.swap.ensures.0 c.pass.invariant told.0)
+    rw (← c.pass.view_is) (Calls-told seat.table_id c.swap.new.seat.table_id c.pass.inside.who.0 seat.me c.swap.new.seat.me (calls.Get c.args.group) (replies.Group c.swap.result) c.swap.ensures.0 c.pass.invariant told.0)
 
 pub returns-clause-homes : goal.returns-clause-homes
 returns-clause-homes c =
@@ -74,4 +74,4 @@ returns-clause-fresh c =
     let sized = c.self.invariant in
     let count : count_in seat.me.0 ≡ c.self.inside.words.tasks = ap (λ (o : Start). length o.state.tasks) start ∙ sized.tasks in
     let told = c.swap.ensures.2 c.args.group (omega arith) (c.box_place-at.ensures.place ∙ (ap (λ (n : ℕ). box_at n c.pass.inside.who.0 c.args.group) (sym count) ∙ ap (λ (k : ℕ). box_at (count_in seat.me.0) k c.args.group) (sym number))) in
-    λ j l set'. rw (← c.pass.view_is) (sym (own_view-held seat.table_id c.pass.inside.who.0 c.pass.inside.takes.items seat.me (64 * c.args.group + j) c.pass.invariant) ∙ (told.1 j l set').1)
+    λ j l set'. rw (← c.pass.view_is) (sym (own_view-held seat.table_id c.pass.inside.who.0 seat.me (64 * c.args.group + j) c.pass.invariant) ∙ (told.1 j l set').1)

@@ -32,7 +32,7 @@ invariant_of-pass c =
     let workers : c.workers.result ≡ (start_in seat.me.0.start).state.workers = c.workers.ensures ∙ (sym sized.workers ∙ ap (λ (o : Start). o.state.workers) (sym start)) in
     let place : c.box_place-at.result ≡ shared_at seat.me.0 c.args.group = c.box_place-at.ensures.place ∙ (ap (λ (n : ℕ). box_at n c.workers.result c.args.group) (sym count) ∙ ap (λ (w : ℕ). box_at (count_in seat.me.0) w c.args.group) workers) in
     let told = c.load.ensures.2 c.args.group (omega arith) place in
-    IsPass-missed c.pass.inside.who.0 c.pass.inside.takes.items seat.me c.load.new.seat.me (clear_in (count_in seat.me.0) c.args.group c.load.result) c.pass.invariant told
+    IsPass-missed c.pass.inside.who.0 seat.me c.load.new.seat.me (clear_in (count_in seat.me.0) c.args.group c.load.result) c.pass.invariant told
 
 pub returns : goal.returns
 returns c =
@@ -45,6 +45,6 @@ returns c =
     let workers : c.workers.result ≡ (start_in seat.me.0.start).state.workers = c.workers.ensures ∙ (sym sized.workers ∙ ap (λ (o : Start). o.state.workers) (sym start)) in
     let place : c.box_place-at.result ≡ shared_at seat.me.0 c.args.group = c.box_place-at.ensures.place ∙ (ap (λ (n : ℕ). box_at n c.workers.result c.args.group) (sym count) ∙ ap (λ (w : ℕ). box_at (count_in seat.me.0) w c.args.group) workers) in
     let told = c.load.ensures.2 c.args.group (omega arith) place in
-    let made = Misses-told seat.table_id c.load.new.seat.table_id c.pass.inside.who.0 c.pass.inside.takes.items seat.me c.load.new.seat.me (clear_in (count_in seat.me.0) c.args.group c.load.result) c.load.ensures.0 c.pass.invariant told in
+    let made = Misses-told seat.table_id c.load.new.seat.table_id c.pass.inside.who.0 seat.me c.load.new.seat.me (clear_in (count_in seat.me.0) c.args.group c.load.result) c.load.ensures.0 c.pass.invariant told in
     let by_board = subst (λ (n : ℕ). Misses (held_by seat.table_id c.pass.inside.who.0 seat.me.0) (clear_in n c.args.group c.load.result) (held_by c.load.new.seat.table_id c.pass.inside.who.0 c.load.new.seat.me.0)) (ap (λ (o : Start). length o.state.tasks) start) made in
     rw (← c.pass.view_is, ← c.self.view_is) by_board

@@ -18,7 +18,7 @@ fetch_or-requires c =
     let home : home_of (start_of key) c.args.id.0 ≡ c.args.boxno = rw (← c.self.view_is) at c.requires.home in
     let same : seat.table_id ≡ c.self.inside.table.shared.table_id = rw (← c.self.view_is, ← c.pass.view_is) at c.requires.board.board in
     let sized = c.self.invariant in
-    let has = own_view-held seat.table_id c.pass.inside.who.0 c.pass.inside.takes.items seat.me c.args.id.0 c.pass.invariant in
+    let has = own_view-held seat.table_id c.pass.inside.who.0 seat.me c.args.id.0 c.pass.invariant in
     let held : own_view seat.me.0 c.args.id.0 ≡ holding = has ∙ (rw (← c.pass.view_is) at c.requires.held) in (
       same,
       subst (λ (w : ℕ). c.box_place-at.result < w) (sym sized.words) c.box_place-at.ensures.within,
@@ -36,7 +36,7 @@ invariant_of-pass c =
     let count : count_in seat.me.0 ≡ c.self.inside.words.tasks = ap (λ (o : Start). length o.state.tasks) start ∙ sized.tasks in
     let workers = ap (λ (o : Start). o.state.workers) start in
     let told = c.fetch_or.ensures.2 c.args.id.0 c.args.boxno (omega arith) (omega arith) (c.box_place-at.ensures.place ∙ ap (λ (n : ℕ). box_at n c.args.boxno (c.args.id.0 / 64)) (sym count)) refl in
-    IsPass-told c.pass.inside.who.0 c.pass.inside.takes.items seat.me c.fetch_or.new.seat.me (calls.Post c.args.id c.args.boxno) replies.Done c.pass.invariant told (λ i. refl) (λ i draw. absurd draw)
+    IsPass-told c.pass.inside.who.0 seat.me c.fetch_or.new.seat.me (calls.Post c.args.id c.args.boxno) replies.Done c.pass.invariant told
 
 pub returns : goal.returns
 returns c =
@@ -49,4 +49,4 @@ returns c =
     let count : count_in seat.me.0 ≡ c.self.inside.words.tasks = ap (λ (o : Start). length o.state.tasks) start ∙ sized.tasks in
     let workers = ap (λ (o : Start). o.state.workers) start in
     let told = c.fetch_or.ensures.2 c.args.id.0 c.args.boxno (omega arith) (omega arith) (c.box_place-at.ensures.place ∙ ap (λ (n : ℕ). box_at n c.args.boxno (c.args.id.0 / 64)) (sym count)) refl in
-    rw (← c.pass.view_is) (Calls-told seat.table_id c.fetch_or.new.seat.table_id c.pass.inside.who.0 c.pass.inside.takes.items seat.me c.fetch_or.new.seat.me (calls.Post c.args.id c.args.boxno) replies.Done c.fetch_or.ensures.0 c.pass.invariant told)
+    rw (← c.pass.view_is) (Calls-told seat.table_id c.fetch_or.new.seat.table_id c.pass.inside.who.0 seat.me c.fetch_or.new.seat.me (calls.Post c.args.id c.args.boxno) replies.Done c.fetch_or.ensures.0 c.pass.invariant told)

@@ -21,8 +21,8 @@ fetch_or-word-requires c =
 
 pub invariant_of-pass : goal.invariant_of-pass
 invariant_of-pass c =
-    IsPass-told c.pass.inside.who.0 c.pass.inside.takes.items c.pass.inside.seat.me c.fetch_or-word.new.seat.me (calls.Wake c.args.id c.args.reasons) (replies.Task (seen_in c.fetch_or-word.result)) c.pass.invariant (c.fetch_or-word.ensures.2 c.args.id.0 c.args.reasons refl c.wake_bits_of-bits.ensures.value) (λ i. refl) (λ i draw. absurd draw)
+    IsPass-told c.pass.inside.who.0 c.pass.inside.seat.me c.fetch_or-word.new.seat.me (calls.Wake c.args.id c.args.reasons) (replies.Task (seen_in c.fetch_or-word.result)) c.pass.invariant (c.fetch_or-word.ensures.2 c.args.id.0 c.args.reasons refl c.wake_bits_of-bits.ensures.value)
 
 pub returns : goal.returns
 returns c =
-    rw (c.seen_of.ensures.value, ← c.pass.view_is) (Calls-told c.pass.inside.seat.table_id c.fetch_or-word.new.seat.table_id c.pass.inside.who.0 c.pass.inside.takes.items c.pass.inside.seat.me c.fetch_or-word.new.seat.me (calls.Wake c.args.id c.args.reasons) (replies.Task (seen_in c.fetch_or-word.result)) c.fetch_or-word.ensures.0 c.pass.invariant (c.fetch_or-word.ensures.2 c.args.id.0 c.args.reasons refl c.wake_bits_of-bits.ensures.value))
+    rw (c.seen_of.ensures.value, ← c.pass.view_is) (Calls-told c.pass.inside.seat.table_id c.fetch_or-word.new.seat.table_id c.pass.inside.who.0 c.pass.inside.seat.me c.fetch_or-word.new.seat.me (calls.Wake c.args.id c.args.reasons) (replies.Task (seen_in c.fetch_or-word.result)) c.fetch_or-word.ensures.0 c.pass.invariant (c.fetch_or-word.ensures.2 c.args.id.0 c.args.reasons refl c.wake_bits_of-bits.ensures.value))
