@@ -1,7 +1,6 @@
 -- Rounds that are counted, and the summary of their run.
-use Rattle.std.proofs.Common.{◌≡◌, ℕ, suc, ◌+◌, ◌-◌, ◌*◌, ◌%◌, ◌^◌, ◌<◌, ◌≤◌, Bool, true, false, List, [], ◌∷◌, ◌++◌, length, IsTrue, Option, refl, sym, ap, ap₂, ◌∙◌, subst, arith, append-nil, cond}
+use Rattle.std.proofs.Common.{◌≡◌, ℕ, ◌+◌, ◌^◌, ◌≤◌, Bool, true, false, List, [], ◌∷◌, ◌++◌, length, IsTrue, Option, refl, sym, ap, ◌∙◌, subst, arith, append-nil, cond}
 use Rattle.std.specs.Prelude.{count_by}
-use Rattle.std.specs.List.{flat_map}
 use Rattle.std.proofs.lemmas.List.{length-append}
 use Rattle.std.proofs.lemmas.Grind.{flat_map-append}
 use Rattle.std.proofs.lemmas.List.Sums.{sum_by-append}
@@ -10,61 +9,69 @@ use Rattle.step_tables.specs.declared.tables.Script.{Script}
 use Rattle.step_tables.specs.Sound.{is_sound}
 use Rattle.task_machine.specs.declared.calls.Entry.{Entry}
 use Rattle.run_model.specs.Run.{Round, Run}
-use Rattle.run_model.specs.Standing.{opening, is_at_rest}
+use Rattle.run_model.specs.Standing.{opening}
 use Rattle.thread_loop.specs.declared.crew.Kept.{Kept}
-use Rattle.thread_loop.specs.declared.player.Player.{Player}
-use Rattle.thread_loop.specs.Crews.{Grows}
-use Rattle.thread_loop.specs.Players as players
-use Rattle.thread_loop.specs.Players.{standing_of, tick_of, IsReady}
 use Rattle.taskrun.specs.declared.counting.Counts.{Counts}
-use Rattle.taskrun.specs.declared.rounds.AfterRound.{AfterRound}
+use Rattle.taskrun.specs.declared.courses.AfterRound.{AfterRound}
+use Rattle.taskrun.specs.declared.courses.Course.{Course}
 use Rattle.taskrun.specs.Answers.{WroteSummary, WroteSummaryFront}
-use Rattle.taskrun.specs.Rounds.{Plays, made, Makes, Counted, entries_of, IsSummary}
-use Rattle.taskrun.specs.Summary.{is_take, is_wake, summary_text, summary_of}
-use Rattle.taskrun.specs.Headline.{kept_rounds}
-use Rattle.taskrun.proofs.Played.{run_ended, rounds_on, plays_length, plays_none, run_of, rounds_begin, front_none, grows_none, grows_round}
+use Rattle.taskrun.specs.Courses.{Runs, Advances}
+use Rattle.taskrun.specs.Summary.{is_take, is_wake, summary_text, summary_of, entries_of, CanCount, HasCounted, Counted, IsSummary}
+use Rattle.taskrun.proofs.Advanced.{runs_length}
+use Rattle.taskrun.proofs.Played.{run_of, rounds_begin, front_none}
 
 counts_more : (p : Entry → Bool) (rounds : List Round) (round : Round) (before after : ℕ) → before ≡ count_by p (entries_of rounds) → after ≡ before + count_by p round.entries → after ≡ count_by p (entries_of (rounds ++ round ∷ []))
 counts_more p rounds round before after so_far more =
     let joined : entries_of (rounds ++ round ∷ []) ≡ entries_of rounds ++ round.entries = flat_map-append (λ (r : Round). r.entries) rounds (round ∷ []) ∙ ap (λ es. entries_of rounds ++ es) (append-nil round.entries) in
     more ∙ ap (λ n. n + count_by p round.entries) so_far ∙ sym (sum_by-append (λ (e : Entry). cond (p e) 1 0) (entries_of rounds) round.entries) ∙ ap (count_by p) (sym joined)
 
-pub counted_none : (s : Script) (p : Player) (told : Option (List Kept)) → standing_of p ≡ opening s → tick_of p ≡ s.start → IsReady s 0 p → Counted s 0 p told told (record { takes = 0; wakes = 0 })
-counted_none s p told stands tick ready = record {
+pub counted_none : (s : Script) (c : Course) (told tells : Option (List Kept)) → Runs s [] 0 told tells c → Counted s 0 c told tells (record { takes = 0; wakes = 0 })
+counted_none s c told tells runs = record {
   rounds = [];
-  plays = plays_none s p stands tick ready;
-  grown = grows_none told;
+  runs = runs;
   takes = refl;
   wakes = refl;
   few_takes = omega arith;
   few_wakes = omega arith;
 }
 
-pub counted_more : (s : Script) (q : ℕ) (old new : Player) (told here tells : Option (List Kept)) (after : AfterRound) (c d : Counts) (es : List Entry) → Counted s q old told here c → Makes s q old new here tells after → after.over ≡ false → es ≡ players.entries_of new → d.takes ≡ c.takes + count_by is_take es → d.wakes ≡ c.wakes + count_by is_wake es → d.takes ≤ c.takes + 2 ^ 64 → d.wakes ≤ c.wakes + 2 ^ 64 → Counted s (q + 1) new told tells d
-counted_more s q old new told here tells after c d es h makes more entries takes wakes few fewer = record {
-  rounds = h.rounds ++ made old new ∷ [];
-  plays = rounds_on s h.rounds q old new here tells after h.plays makes more;
-  grown = grows_round (suc s.workers) told here tells h.rounds (made old new) q (plays_length s h.rounds q old h.plays) h.grown makes.made.grown;
-  takes = counts_more is_take h.rounds (made old new) c.takes d.takes h.takes (takes ∙ ap (λ xs. c.takes + count_by is_take xs) entries);
-  wakes = counts_more is_wake h.rounds (made old new) c.wakes d.wakes h.wakes (wakes ∙ ap (λ xs. c.wakes + count_by is_wake xs) entries);
-  few_takes = omega (arith, h.few_takes, few);
-  few_wakes = omega (arith, h.few_wakes, fewer);
-}
+-- what is counted of the rounds with one more
+one_more : (s : Script) (q : ℕ) (old : Course) (told here : Option (List Kept)) (c d : Counts) (round : Round) → (h : Counted s q old told here c) → HasCounted round.entries c d → (d.takes ≡ count_by is_take (entries_of (h.rounds ++ round ∷ []))) × (d.wakes ≡ count_by is_wake (entries_of (h.rounds ++ round ∷ [])))
+one_more s q old told here c d round h more = (
+  counts_more is_take h.rounds round c.takes d.takes h.takes more.takes,
+  counts_more is_wake h.rounds round c.wakes d.wakes h.wakes more.wakes,
+)
 
--- the summary of the run that ends with the round that was made
-pub summed : (s : Script) (q tasks : ℕ) (old new : Player) (told here tells : Option (List Kept)) (after : AfterRound) (c d : Counts) (es : List Entry) (text : List ℕ) → Counted s q old told here c → Makes s q old new here tells after → after.over ≡ true → es ≡ players.entries_of new → d.takes ≡ c.takes + count_by is_take es → d.wakes ≡ c.wakes + count_by is_wake es → tasks ≡ length s.tasks → text ≡ summary_text tasks (q + 1) d.takes d.wakes after.rest → IsSummary s told tells text
+pub counted_more : (s : Script) (q : ℕ) (old new : Course) (told here tells : Option (List Kept)) (after : AfterRound) (c d : Counts) → (h : Counted s q old told here c) → Advances s h.rounds q told tells (λ round. HasCounted round.entries c d) new after → after.over ≡ false → Counted s (q + 1) new told tells d
+counted_more s q old new told here tells after c d h adv more =
+    let all = one_more s q old told here c d adv.round h adv.noted in
+    record {
+      rounds = h.rounds ++ adv.round ∷ [];
+      runs = adv.runs more;
+      takes = all.0;
+      wakes = all.1;
+      few_takes = omega (arith, h.few_takes, adv.noted.few_takes);
+      few_wakes = omega (arith, h.few_wakes, adv.noted.few_wakes);
+    }
+
+-- a sound script has few rounds, and so few takes and wakes come before the last
+pub can_count : (s : Script) (q : ℕ) (c : Course) (told tells : Option (List Kept)) (counts : Counts) → q ≤ 2 ^ 32 → Counted s q c told tells counts → CanCount counts
+can_count s q c told tells counts few h = (omega (arith, few, h.few_takes), omega (arith, few, h.few_wakes))
+
+-- the summary of the run that ends with the round that was noted
+pub summed : (s : Script) (q tasks : ℕ) (old new : Course) (told here tells : Option (List Kept)) (after : AfterRound) (c d : Counts) (text : List ℕ) → (h : Counted s q old told here c) → Advances s h.rounds q told tells (λ round. HasCounted round.entries c d) new after → after.over ≡ true → tasks ≡ length s.tasks → text ≡ summary_text tasks (q + 1) d.takes d.wakes after.rest → IsSummary s told tells text
 unfolding summary_of
-summed s q tasks old new told here tells after c d es text h makes over entries takes wakes count is =
-    let all = h.rounds ++ made old new ∷ [] in
-    let run : Run = record { rounds = all; rest = is_at_rest s q (standing_of new) } in
-    let before = plays_length s h.rounds q old h.plays in
-    let long : q + 1 ≡ length all = (let l = length-append h.rounds (made old new ∷ []) in omega arith) in
-    let taken : d.takes ≡ count_by is_take (entries_of all) = counts_more is_take h.rounds (made old new) c.takes d.takes h.takes (takes ∙ ap (λ xs. c.takes + count_by is_take xs) entries) in
-    let woken : d.wakes ≡ count_by is_wake (entries_of all) = counts_more is_wake h.rounds (made old new) c.wakes d.wakes h.wakes (wakes ∙ ap (λ xs. c.wakes + count_by is_wake xs) entries) in (
+summed s q tasks old new told here tells after c d text h adv over count is =
+    let all = h.rounds ++ adv.round ∷ [] in
+    let run : Run = record { rounds = all; rest = after.rest } in
+    let before = runs_length s h.rounds q told here old h.runs in
+    let long : q + 1 ≡ length all = (let l = length-append h.rounds (adv.round ∷ []) in omega arith) in
+    let more = one_more s q old told here c d adv.round h adv.noted in
+    let ends = adv.ends over in (
       run,
-      run_of s run (run_ended s h.rounds q old new here tells after h.plays makes over),
-      is ∙ (λ i. summary_text (count i) (long i) (taken i) (woken i) (makes.rest i)),
-      grows_round (suc s.workers) told here tells h.rounds (made old new) q before h.grown makes.made.grown,
+      run_of s run ends.lawful,
+      is ∙ (λ i. summary_text (count i) (long i) (more.0 i) (more.1 i) after.rest),
+      ends.grown,
     )
 
 -- ---- what is written of a summary

@@ -2,6 +2,7 @@ pub mod Answered
 pub mod Calls
 pub mod Texts
 pub mod RunTexts
+pub mod Advanced
 pub mod Played
 pub mod Served
 pub mod Counted

@@ -1,15 +1,14 @@
 -- The answers to a replay, from those of its parts.
-use Rattle.std.proofs.Common.{◌≡◌, ℕ, ◌+◌, ◌<◌, ◌≤◌, List, [], length, take, refl, sym, ap, ◌∙◌, subst, arith, Option, Some, None, IfSome, Result, Ok, Err}
+use Rattle.std.proofs.Common.{◌≡◌, ℕ, ◌<◌, List, [], length, take, refl, subst, arith, Option, Some, None, IfSome, Result, Ok, Err}
 use Rattle.step_tables.specs.declared.faults.ScriptFault.{ScriptFault}
 use Rattle.step_tables.specs.declared.tables.Script.{Script}
 use Rattle.step_tables.specs.Judging.{script_of}
 use Rattle.transcript.specs.declared.faults.TextFault.{TextFault}
 use Rattle.transcript.specs.declared.lines.Line.{Line}
 use Rattle.transcript.specs.Judging.{run_of}
-use Rattle.run_replay.specs.Verdicts.{AreOfRun}
 use Rattle.taskrun.specs.declared.status.Status.{Status}
 use Rattle.taskrun.specs.declared.status.Status.TheVariants.{Done, ScriptRefused, Usage, ReadFault, WriteFault, NoMemory, NotLawful, TextRefused}
-use Rattle.taskrun.specs.Answers.{OnScript, OnLines, IsReplayed, Replays, ExpectedReplay, IsReplaying}
+use Rattle.taskrun.specs.Answers.{IsReplayed, Replays, ExpectedReplay, IsReplaying}
 use Rattle.taskrun.specs.Inputs.{script_part, transcript_part}
 use Rattle.taskrun.proofs.InputParts.{script_read, text_read, parts_short}
 

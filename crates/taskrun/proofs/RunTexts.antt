@@ -1,16 +1,13 @@
 -- Each lawful run has a text.
-use Rattle.std.proofs.Common.{◌≡◌, ℕ, ◌+◌, ◌-◌, ◌*◌, ◌^◌, ◌<◌, ◌≤◌, ◌==◌, Bool, true, false, List, [], ◌∷◌, ◌++◌, map, length, MatchBool, IsTrue, refl, sym, ap, ◌∙◌, subst, arith, lit<, if◌then◌else◌}
+use Rattle.std.proofs.Common.{◌≡◌, ℕ, ◌+◌, ◌-◌, ◌*◌, ◌^◌, ◌<◌, ◌≤◌, ◌==◌, Bool, true, false, List, [], ◌∷◌, ◌++◌, map, length, MatchBool, IsTrue, Option, refl, sym, subst, arith, lit<}
 use Rattle.std.specs.List.{All, AllByRecursion}
-use Rattle.std.proofs.lemmas.Bool.{cases_Bool, leb-true}
+use Rattle.std.proofs.lemmas.Bool.{leb-true}
 use Rattle.std.proofs.lemmas.Bool.Decides.{nat_tests}
 use Rattle.std.proofs.lemmas.List.{length-map}
 use Rattle.std.proofs.lemmas.List.Elements.{All-cons, All-nil}
 use Rattle.step_tables.specs.declared.tables.Script.{Script}
-use Rattle.step_tables.specs.declared.tables.TaskDef.{TaskDef}
 use Rattle.step_tables.specs.Sound.{is_sound}
 use Rattle.task_machine.specs.declared.calls.Entry.{Entry}
-use Rattle.task_machine.specs.Task.{resting, seated}
-use Rattle.task_machine.specs.Step.{State, task_at}
 use Rattle.run_model.specs.Run.{Round, Run}
 use Rattle.run_model.specs.Lawful.{RoundOf, Goes, LawfulRun}
 use Rattle.run_model.specs.Standing.{Standing, opening, opened, next_tick, is_at_rest}
@@ -24,9 +21,14 @@ use Rattle.standing.proofs.Opening.{opening_each}
 use Rattle.standing.proofs.Rounds.{made-round}
 use Rattle.transcript.specs.declared.lines.Line.TheVariants as lines
 use Rattle.transcript.specs.HasText.{HasTextLine, HasTextEntry}
-use Rattle.run_texts.specs.RunLines.{lines_from, lines_of_run}
+use Rattle.run_texts.specs.RunLines.{lines_from}
 use Rattle.run_texts.specs.RunText.{HasText}
-use Rattle.taskrun.proofs.Calls.{SmallCall, small_going}
+use Rattle.thread_loop.specs.declared.crew.Kept.{Kept}
+use Rattle.thread_loop.specs.Plants.{standing_of}
+use Rattle.taskrun.specs.declared.courses.Course.{Course}
+use Rattle.taskrun.specs.Courses.{ComesNext}
+use Rattle.taskrun.proofs.Advanced.{firm_before}
+use Rattle.taskrun.proofs.Calls.{small_going}
 use Rattle.taskrun.proofs.Texts.{Small, SmallTask, history_has_text}
 
 all_append : {A : Type 0} (P : A → Type 0) (xs ys : List A) → AllByRecursion P xs → AllByRecursion P ys → AllByRecursion P (xs ++ ys)
@@ -103,7 +105,13 @@ entries_all [] h = All-nil HasTextEntry
 entries_all (e ∷ es) h = All-cons HasTextEntry e es h.0.1 (entries_all es h.1)
 
 -- the entries of a round after whole rounds have a text
-pub entries_texts : (s : Script) (rounds : List Round) (q U limit : ℕ) (st : Standing) (round : Round) (new : Standing) → IsTrue (is_sound s) → Passes s 0 s.start (opening s) rounds q U st → Firm s U limit st → RoundOf s q U st round new → All HasTextEntry round.entries
+entries_texts : (s : Script) (rounds : List Round) (q U limit : ℕ) (st : Standing) (round : Round) (new : Standing) → IsTrue (is_sound s) → Passes s 0 s.start (opening s) rounds q U st → Firm s U limit st → RoundOf s q U st round new → All HasTextEntry round.entries
 entries_texts s rounds q U limit st round new sound passes firm is =
     let small = passes_small s 0 s.start 0 (opening s) rounds q U st sound (firm-opening s sound) (small_opening s sound) passes in
     entries_all round.entries (round_small s q U limit st round new sound firm small is).0
+
+-- a round that comes next may be noted by its lines
+pub may_note : (s : Script) (q : ℕ) (tells : Option (List Kept)) (c : Course) (next : Round) → IsTrue (is_sound s) → ComesNext s q tells c next → All HasTextEntry next.entries
+may_note s q tells c next sound h =
+    let firm = firm_before s h.rounds q h.told tells c sound h.runs in
+    entries_texts s h.rounds q c.tick (q * round_takes s) h.runs.old next (standing_of c.plant) sound h.runs.passes firm h.lawful

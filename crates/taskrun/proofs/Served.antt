@@ -1,5 +1,5 @@
 -- What each command's answers say.
-use Rattle.std.proofs.Common.{◌≡◌, ◌≤◌, ℕ, true, false, List, Option, Some, None, IfSome, refl, sym, inl}
+use Rattle.std.proofs.Common.{◌≡◌, ℕ, List, Option, Some, None, refl, sym, inl}
 use Rattle.command_line.specs.declared.command.Command.{Command}
 use Rattle.command_line.specs.declared.command.Command.TheVariants.{Run, Replay, Gen}
 use Rattle.taskrun.specs.declared.status.Status.TheVariants.{NoMemory}

@@ -1,6 +1,6 @@
 -- What each answer of the top call says (docs/MODEL.md, "Answers").
-use Rattle.std.specs.Prelude.{◌≡◌, ℕ, ◌≤◌, ◌⊎◌, Bool, true, false, List, [], length, codes, Option, Some, None, IfSome, Result, Ok, Err}
-use Rattle.sched_base.specs.Streams.{Reads, Appends, AppendsFront}
+use Rattle.std.specs.Prelude.{◌≡◌, ℕ, ◌≤◌, ◌⊎◌, Bool, true, false, List, codes, Option, Some, None, IfSome, Result, Ok, Err}
+use Rattle.sched_base.specs.Streams.{Appends, AppendsFront}
 use Rattle.step_tables.specs.declared.faults.ScriptFault.{ScriptFault}
 use Rattle.step_tables.specs.declared.tables.Script.{Script}
 use Rattle.step_tables.specs.Judging.{script_of}

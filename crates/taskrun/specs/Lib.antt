@@ -5,3 +5,4 @@ pub mod Answers
 pub mod ErrorLines
 pub mod Arguments
 pub mod Rounds
+pub mod Courses

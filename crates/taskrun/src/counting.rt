@@ -1,8 +1,10 @@
 //! How many takes and wakes a run has.
 
-ghost use Rattle.std.specs.Prelude.{◌≡◌, ◌+◌, ◌*◌, ◌<◌, ◌≤◌, ◌^◌, length, count_by};
-ghost use Rattle.taskrun.specs.Summary.{is_take, is_wake};
+ghost use Rattle.std.specs.Prelude.{◌≡◌, ◌+◌, ◌≤◌, ◌^◌, length, count_by};
+ghost use Rattle.taskrun.specs.Summary.{is_take, is_wake, CanCount, HasCounted};
 
+use crate::courses::Scribe;
+use std::alloc::AllocError;
 use task_machine::{Call, Entry};
 
 /// How many takes and wakes were made. With 128 bits no sum of theirs passes its end.
@@ -45,14 +47,25 @@ impl Counts {
     pub const NONE: Counts = Counts { takes: 0, wakes: 0 };
 
     /// Counts the entries of a round too.
-    pub fn add(&mut self, entries: &[Entry])
-        requires { (self.old.takes < 2 ^ 100) × (self.old.wakes < 2 ^ 100) }
-        ensures takes { self.new.takes ≡ self.old.takes + count_by is_take entries.now }
-        ensures wakes { self.new.wakes ≡ self.old.wakes + count_by is_wake entries.now }
-        ensures few_takes { self.new.takes ≤ self.old.takes + 2 ^ 64 }
-        ensures few_wakes { self.new.wakes ≤ self.old.wakes + 2 ^ 64 }
+    fn add(&mut self, entries: &[Entry])
+        requires { CanCount self.old }
+        ensures { HasCounted entries.now self.old self.new }
     {
         self.takes += takes_in(entries) as u128;
         self.wakes += wakes_in(entries) as u128;
+    }
+}
+
+/// Counts note a round by its takes and wakes.
+impl Scribe for Counts {
+    ghost use Rattle.taskrun.specs.Summary.{CanCount, HasCounted};
+
+    ghost can_note = { λ _ _ counts. CanCount counts };
+
+    ghost notes = { λ _ round old new. HasCounted round.entries old new };
+
+    fn note(&mut self, _round: u32, _tick: u32, entries: &[Entry]) -> Result<(), AllocError> {
+        self.add(entries);
+        Ok(())
     }
 }

@@ -4,6 +4,7 @@
 
 mod arguments;
 mod counting;
+mod courses;
 mod error_lines;
 mod inputs;
 #[cfg(test)]

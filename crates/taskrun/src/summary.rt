@@ -5,11 +5,11 @@ ghost use Rattle.std.specs.Prelude.{decimal, [], IsTrue};
 ghost use Rattle.step_tables.specs.Sound.{is_sound};
 ghost use Rattle.sched_base.specs.Streams.{Rose};
 ghost use Rattle.taskrun.specs.Answers.{WroteSummary, WroteSummaryFront};
-ghost use Rattle.taskrun.specs.Rounds.{IsSummary};
-ghost use Rattle.taskrun.specs.Summary.{summary_text};
+ghost use Rattle.taskrun.specs.Summary.{summary_text, IsSummary};
 
 use crate::counting::Counts;
-use crate::rounds::{PlayError, make_round};
+use crate::courses::Course;
+use crate::rounds::PlayError;
 use itoa::Buffer;
 use program_edges::write_all;
 use sched_base::{Gate, Sink};
@@ -17,7 +17,7 @@ use std::alloc::{AllocError, Global};
 use std::thread::Threads;
 use step_tables::Script;
 use text_lines::put_bytes;
-use thread_loop::{Crew, Player};
+use thread_loop::Crew;
 use transcript::write_end;
 
 /// Runs a script, its rounds made by a crew, and writes the summary of the run. After an error the sink has a first part
@@ -52,11 +52,10 @@ fn summary<R: Threads + Sync, C: Crew, G: Gate + Sync>(
     ensures sound { IsTrue (is_sound script.now) }
 {
     let rounds = script.rounds();
-    let mut player = Player::new(alloc, script)?;
     let mut counts = Counts::NONE;
+    let mut course = Course::start(rt, alloc, script, crew, gate)?;
     for round in 0..rounds {
-        let after = make_round(rt, alloc, &mut player, script, crew, round, gate)?;
-        counts.add(player.entries());
+        let after = course.advance(rt, alloc, script, crew, &mut counts, round, gate)?;
         if after.over {
             return summary_text(alloc, script.tasks().len(), round, &counts, after.rest);
         }

@@ -32,7 +32,7 @@ pub mod Ran
 pub mod PlantBegun
 pub mod PlantRests
 pub mod Nices
-pub mod Playing
+pub mod PlayedRounds
 pub mod Passing
 pub mod Halves
 pub mod Made

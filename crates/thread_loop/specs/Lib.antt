@@ -10,4 +10,4 @@ pub mod Holders
 pub mod Plants
 pub mod Rounds
 pub mod Crews
-pub mod Players
+pub mod Mergers

@@ -1,6 +1,7 @@
 //! What a worker has in its forest after a turn.
 
 use crate::injector::Injector;
+use crate::merger::Merger;
 use crate::plant::Plant;
 use crate::worker::Worker;
 use sched_base::OpenGate;
@@ -74,6 +75,7 @@ fn handed<T: Send>() {}
 fn workers_and_injectors_are_handed_on() {
     handed::<Worker>();
     handed::<Injector>();
+    handed::<Merger>();
 }
 
 #[test]

@@ -1,5 +1,5 @@
 -- The words of the command line are the arguments behind the first.
-use Rattle.std.proofs.Common.{◌≡◌, true, false, List, IfOk, IfErr, Result, Ok, Err, Option, Some, None, IfSome, inl, refl, sym, ap, ◌∙◌, map, drop, subst}
+use Rattle.std.proofs.Common.{◌≡◌, List, IfOk, Result, Ok, Err, Option, ap, ◌∙◌, map, drop, subst}
 use Rattle.std.specs.Vec.Iter.{into_iter_items}
 use Rattle.std.specs.Prelude.{String}
 use Rattle.std.specs.String.{string_bytes}
@@ -7,10 +7,8 @@ use Rattle.std.specs.declared.alloc.Global.{Global}
 use Rattle.sched_base.specs.Streams.{Rose}
 use Rattle.command_line.specs.declared.command.Command.{Command}
 use Rattle.command_line.specs.Commands.{command_of}
-use Rattle.taskrun.specs.declared.status.Status.TheVariants.{NoMemory}
 use Rattle.taskrun.specs.Answers.{AnswersTo, ExpectedOf, IsAmong}
 use Rattle.taskrun.specs.Arguments.{command_among}
-use Rattle.taskrun.proofs.Served.{memory_answers, memory_expected}
 use Rattle.taskrun.proofs.arguments.answer.Goals as goal
 
 -- what is said of the command in the words that were seen, said of the one among the arguments

@@ -1,7 +1,7 @@
-use Rattle.std.proofs.Common.{◌≡◌, ◌≤◌, length, ℕ, ◌+◌, ◌-◌, true, false, List, [], ◌∷◌, ap, sym, ◌∙◌, arith, if◌then◌else◌}
+use Rattle.std.proofs.Common.{◌≡◌, length, ◌+◌, true, false, ◌∷◌, ap, sym, ◌∙◌, arith, if◌then◌else◌}
 use Rattle.std.specs.Prelude.{bytes_eq}
 use Rattle.text_lines.specs.Pieces.{pieces, pieces_left}
-use Rattle.taskrun.specs.Inputs.{through_end, script_length}
+use Rattle.taskrun.specs.Inputs.{through_end}
 use Rattle.taskrun.proofs.InputParts.{is_end, last_piece, line_length, line_end}
 use Rattle.taskrun.proofs.inputs.script_length.Goals as goal
 

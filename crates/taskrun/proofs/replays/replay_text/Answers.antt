@@ -1,4 +1,4 @@
-use Rattle.std.proofs.Common.{◌≡◌, ◌≤◌, length, arith}
+use Rattle.std.proofs.Common.{arith}
 use Rattle.taskrun.proofs.TextLengths.{lines_follow, lines_within}
 use Rattle.taskrun.proofs.replays.replay_text.Goals as goal
 

@@ -1,23 +1,22 @@
-use Rattle.std.proofs.Common.{◌≡◌, ◌<◌, ◌++◌, ℕ, List, Option, subst, sym, ap, ◌∙◌, arith}
+use Rattle.std.proofs.Common.{◌≡◌, ◌++◌, sym, ap, ◌∙◌, arith}
 use Rattle.std.proofs.lemmas.Result.{err_from_is_err_and}
 use Rattle.transcript.specs.Spelling.{head_text}
-use Rattle.taskrun.specs.Answers.{WroteFront}
-use Rattle.taskrun.specs.Rounds.{Underway}
-use Rattle.taskrun.proofs.Played.{after_error, unstarted, started, plays_more, rose_later}
+use Rattle.taskrun.proofs.Advanced.{more_rounds}
+use Rattle.taskrun.proofs.Played.{after_error, unstarted, started, rose_later}
 use Rattle.taskrun.proofs.rounds.play_out.Goals as goal
-
-pub returns-in_err-player-clause-err : goal.returns-in_err-player-clause-err
-returns-in_err-player-clause-err g c = after_error _ _ (unstarted c.args.script.now (g.O.Sink.held c.args.out.now) c.rounds-rounds.ensures.sound)
 
 pub returns-in_err-write_head-clause-err : goal.returns-in_err-write_head-clause-err
 returns-in_err-write_head-clause-err g c = after_error _ _ (unstarted c.args.script.now (g.O.Sink.held c.args.out.now) c.rounds-rounds.ensures.sound)
+
+pub returns-in_err-course-clause-err : goal.returns-in_err-course-clause-err
+returns-in_err-course-clause-err g c = after_error _ _ (unstarted c.args.script.now (g.O.Sink.held c.args.out.now) c.rounds-rounds.ensures.sound)
 
 pub loop-round-init : goal.loop-round-init
 loop-round-init g c =
     let s = c.args.script.now in
     let head : c.write_head.new.out.items ≡ head_text = c.in_ok-write_head.ensures.written ∙ ap (λ t. t ++ head_text) c.new-text.ensures.items in
     record {
-      under = started s (g.O.Sink.held c.args.out.now) (g.C.Crew.told c.args.crew.now) c.write_head.new.out.items c.in_ok-player.player head c.in_ok-player.ensures.opening c.in_ok-player.ensures.tick c.in_ok-player.ensures.ready;
+      under = started s (g.O.Sink.held c.args.out.now) (g.C.Crew.told c.args.crew.now) (g.C.Crew.told c.start.new.crew) c.write_head.new.out.items c.in_ok-course.course head c.in_ok-course.ensures;
       counted = omega arith;
     }
 
@@ -41,5 +40,5 @@ loop-round-preserved g c = record {
 pub unreachable-requires : goal.unreachable-requires
 unreachable-requires g c =
     let under = c.loop-round.invariant.under in
-    let more = plays_more c.args.script.now under.rounds c.loop-round.round c.loop-round.player c.rounds-rounds.ensures.sound under.plays in
+    let more = more_rounds c.args.script.now under.rounds c.loop-round.round _ _ c.loop-round.course c.rounds-rounds.ensures.sound under.runs in
     omega (arith, c.rounds-rounds.ensures.same)

@@ -1,5 +1,5 @@
 use Rattle.taskrun.proofs.Played.{after_error}
-use Rattle.taskrun.proofs.Counted.{summary_none, summary_written, summary_begun}
+use Rattle.taskrun.proofs.Counted.{summary_none}
 use Rattle.taskrun.proofs.summary.sum_up.Goals as goal
 
 pub returns-in_err-text-clause-err : goal.returns-in_err-text-clause-err

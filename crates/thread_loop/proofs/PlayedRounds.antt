@@ -1,5 +1,5 @@
--- A player's round: what its crew made, merged into one history.
-use Rattle.std.proofs.Common.{◌≡◌, ℕ, suc, ◌+◌, ◌^◌, ◌<◌, ◌≤◌, List, [], ◌∷◌, ◌++◌, length, Option, refl, sym, ap, subst, ◌∙◌, arith}
+-- A round made whole: its logs have a legal merge, which is a lawful round.
+use Rattle.std.proofs.Common.{◌≡◌, ℕ, suc, ◌+◌, ◌^◌, ◌<◌, ◌≤◌, List, [], ◌∷◌, ◌++◌, length, refl, sym, ap, subst, ◌∙◌, arith}
 use Rattle.std.specs.List.{flat_map, range_with_len}
 use Rattle.std.proofs.lemmas.List.Sums.{sum_by-cons}
 use Rattle.step_tables.specs.declared.tables.Script.{Script}
@@ -8,13 +8,14 @@ use Rattle.task_machine.specs.declared.calls.Call.TheVariants as calls
 use Rattle.task_machine.specs.declared.calls.Entry.{Entry}
 use Rattle.task_machine.specs.Logged.{Logged}
 use Rattle.task_machine.specs.Step.{State, task_at}
-use Rattle.task_machine.specs.History.{IsMerge, calls_of, led}
+use Rattle.task_machine.specs.History.{IsMerge, calls_of}
 use Rattle.run_model.specs.Lawful.{RoundOf}
 use Rattle.run_model.specs.Standing.{Standing}
 use Rattle.history_weave.specs.Places.{log_at, entry_count}
 use Rattle.history_weave.specs.Weaving.{HasMerge, HasTakesLeft, take_of, takes_in, take_count}
-use Rattle.thread_loop.specs.Crews.{kept, kept_logs, kept_calls, Grows}
+use Rattle.thread_loop.specs.Crews.{kept, kept_logs, kept_calls}
 use Rattle.thread_loop.specs.Plants.{IsReady, HasEnded, next_round, standing_of}
+use Rattle.thread_loop.specs.Mergers.{IsMade}
 use Rattle.thread_loop.specs.declared.crew.Kept.{Kept}
 use Rattle.thread_loop.specs.declared.plant.Plant.{Plant}
 use Rattle.thread_loop.proofs.Running.{few_takes}
@@ -63,26 +64,38 @@ pub kept-merged : (s : Script) (r w : ℕ) (m : State) (logs : List Logged) (es 
 kept-merged s r w m logs es count merge =
     kept-from r 0 logs es (λ i lt. let none : 0 + i ≡ i = omega arith in ap (λ (j : ℕ). calls_of j es) none ∙ merge.1 i) ∙ ap (λ (n : ℕ). flat_map (λ (j : ℕ). kept r (calls_of j es)) (range_with_len 0 n)) count
 
-pub grows-by : (before after : Option (List Kept)) (a b : List Kept) → a ≡ b → Grows before after a → Grows before after b
-grows-by before after a b same h = subst (λ (ks : List Kept). Grows before after ks) same h
+-- ---- the round
 
--- ---- the merge
-
-pub has-merge : (m : State) (st : Standing) (p : Plant) (logs : List Logged) → m ≡ st.state → logs ≡ p.logs.items → ((es : List Entry) × IsMerge st.state (log_at p.logs.items) es) → HasMerge m logs
-has-merge m st p logs same is h = subst (λ (x : State). HasMerge x logs) (sym same) (subst (λ (ls : List Logged). HasMerge st.state ls) (sym is) h)
-
-merge-back : (m : State) (st : Standing) (p : Plant) (logs : List Logged) (es : List Entry) → m ≡ st.state → logs ≡ p.logs.items → IsMerge m (log_at logs) es → IsMerge st.state (log_at p.logs.items) es
-merge-back m st p logs es same is h = subst (λ (x : State). IsMerge x (log_at p.logs.items) es) same (subst (λ (ls : List Logged). IsMerge m (log_at ls) es) is h)
-
-pub made : (s : Script) (r : ℕ) (p0 p1 p3 : Plant) (m : State) (logs : List Logged) (es : List Entry) → HasEnded s (next_round r p1) p3 → standing_of p1 ≡ standing_of p0 → p1.tick ≡ p0.tick → m ≡ (standing_of p0).state → logs ≡ p3.logs.items → IsMerge m (log_at logs) es → RoundOf s r p0.tick (standing_of p0) (record { tick = p0.tick; entries = es }) (standing_of p3)
-made s r p0 p1 p3 m logs es ended same tick is logged merge =
-    let back = merge-back m (standing_of p1) p3 logs es (is ∙ ap (λ (st : Standing). st.state) (sym same)) logged merge in
+lawful : (s : Script) (r : ℕ) (p0 p1 p3 : Plant) → HasEnded s (next_round r p1) p3 → standing_of p1 ≡ standing_of p0 → p1.tick ≡ p0.tick → (es : List Entry) → IsMerge (standing_of p0).state (log_at p3.logs.items) es → RoundOf s r p0.tick (standing_of p0) (record { tick = p0.tick; entries = es }) (standing_of p3)
+lawful s r p0 p1 p3 ended same tick es merge =
+    let back = subst (λ (st : Standing). IsMerge st.state (log_at p3.logs.items) es) (sym same) merge in
     subst (λ (T : ℕ). RoundOf s r T (standing_of p0) (record { tick = T; entries = es }) (standing_of p3)) tick (subst (λ (st : Standing). RoundOf s r p1.tick st (record { tick = p1.tick; entries = es }) (standing_of p3)) same (ended.round es back))
 
-pub machine-led : (s : Script) (r T : ℕ) (p0 p3 : Plant) (m new : State) (es : List Entry) → m ≡ (standing_of p0).state → new ≡ led m es → RoundOf s r T (standing_of p0) (record { tick = T; entries = es }) (standing_of p3) → new ≡ (standing_of p3).state
-machine-led s r T p0 p3 m new es same leads round = leads ∙ ap (λ (x : State). led x es) same ∙ sym round.history.1
+pub made : (s : Script) (r : ℕ) (p0 p1 p3 : Plant) → IsReady s r p0 → r < s.rounds → HasEnded s (next_round r p1) p3 → standing_of p1 ≡ standing_of p0 → p1.tick ≡ p0.tick → IsMade s r p0.tick (standing_of p0) p3.logs.items (standing_of p3)
+made s r p0 p1 p3 ready more ended same tick = record {
+  count = ended.ready.holds.logs;
+  few = ended.few;
+  takes_left = takes-left s r p0 (standing_of p0).state p3.logs.items ready more refl ended.few;
+  merge = subst (λ (st : Standing). HasMerge st.state p3.logs.items) same ended.merge;
+  round = lawful s r p0 p1 p3 ended same tick;
+}
 
-pub told-merged : (s : Script) (r : ℕ) (p2 p3 : Plant) (m : State) (logs : List Logged) (es : List Entry) (before after : Option (List Kept)) → p3.logs.items ≡ p2.logs.items → logs ≡ p3.logs.items → length p3.logs.items ≡ suc s.workers → IsMerge m (log_at logs) es → Grows before after (kept_logs r p2.logs.items) → Grows before after (kept_calls r (suc s.workers) es)
-told-merged s r p2 p3 m logs es before after same is count merge h =
-    let size : length logs ≡ suc s.workers = ap (λ (ls : List Logged). length ls) is ∙ count in
-    grows-by before after (kept_logs r p2.logs.items) (kept_calls r (suc s.workers) es) (ap (kept_logs r) (sym (is ∙ same)) ∙ kept-merged s r s.workers m logs es size merge) h
+-- other logs, for as many callers, change nothing of where the plant stands
+pub ready-swapped : (s : Script) (r : ℕ) (p q : Plant) → q ≡ record p { logs = q.logs } → length q.logs.items ≡ suc s.workers → IsReady s r p → IsReady s r q
+unfolding standing_of
+ready-swapped s r p q same count ready = subst (λ (x : Plant). IsReady s r x) (sym same) (record {
+  sound = ready.sound;
+  holds = record {
+    stands = ready.holds.stands;
+    homes = ready.holds.homes;
+    nexts = ready.holds.nexts;
+    count = ready.holds.count;
+    logs = count;
+    holders = ready.holds.holders;
+    queue = ready.holds.queue;
+  };
+  firm = ready.firm;
+  idle = ready.idle;
+  ended = ready.ended;
+  ran = ready.ran;
+})

@@ -1,6 +1,6 @@
 use Rattle.std.proofs.Common.{◌≡◌, take}
 use Rattle.history_weave.specs.Places.{entry_count}
-use Rattle.thread_loop.proofs.player.count.Given as goal
+use Rattle.thread_loop.proofs.merger.count.Given as goal
 
 -- the logs so far are counted
 abbrev pub invariant-loop-log : goal.invariant-loop-log
