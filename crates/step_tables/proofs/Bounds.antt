@@ -3,8 +3,7 @@ use Rattle.std.proofs.Common.{◌≡◌, ℕ, ◌^◌, ◌≤◌, ◌<◌, true,
 use Rattle.std.specs.Prelude.{nat_le}
 use Rattle.std.specs.List.{list_all}
 use Rattle.std.proofs.lemmas.Bool.Decides.{nat_tests}
-use Rattle.step_tables.specs.declared.shapes.Setting.{Setting}
-use Rattle.step_tables.specs.declared.shapes.Setting.TheVariants.{Workers, Depth, Start, Step, Rounds}
+use Rattle.step_tables.specs.Types.{Setting, Workers, Depth, Start, Step, Rounds}
 use Rattle.step_tables.specs.declared.tables.Script.{Script}
 use Rattle.step_tables.specs.Limits.{newest, limits_of, most_rows, most_delay}
 use Rattle.step_tables.specs.Judging.{least, most, outside, byte_limit}

@@ -1,16 +1,16 @@
 -- Worked texts: each is read as its script, or has the line and the kind of its fault.
 use Rattle.std.proofs.Common.{◌≡◌, refl}
 use Rattle.std.specs.Prelude.{ℕ, List, [], ◌∷◌, ◌++◌, pos, negsuc, true, false, codes, map, Ok, Err}
-use Rattle.sched_base.specs.declared.names.Class.TheVariants.{Urgent}
-use Rattle.step_tables.specs.declared.tables.Action.TheVariants.{Wake, Kill}
-use Rattle.step_tables.specs.declared.tables.Expiry.TheVariants.{Keep, After}
-use Rattle.step_tables.specs.declared.tables.Kind.TheVariants.{Pinned, Shared, Tasklet}
+use Rattle.step_tables.specs.Types.{Urgent, Wake, Kill, Keep, After, Pinned, Shared, Tasklet}
 use Rattle.step_tables.specs.declared.tables.Script.{Script}
 use Rattle.text_lines.specs.Lines.{line_over, line_taken, closed, folded}
 use Rattle.text_lines.specs.Numbers.{number, plain_number, signed}
-use Rattle.step_tables.specs.Words.{words_of, is_name, reasons_of, class_of}
-use Rattle.step_tables.specs.Shapes.{word_at, past, word_past, name_at, at_end, init_at, pinned_at, shared_at, tasklet_at, task_place_at, task_end, task_line, tasklet_line, wake_at, kill_at, order_at, orders_at, after_at, never_at, delay_at, closing, row_start, row_line, event_line, setting_line, task_said, tasklet_said, row_said, event_said, end_said, body_line}
-use Rattle.step_tables.specs.Judging.{value, signed_value, no_number, no_signed, named, unknown, place_no_number, place_outside, delay_no_number, delay_outside, kind_of, task_of, number_named, reasons_named, action_of, expiry_of, row_of, event_of, with_setting, with_task, with_row_at_end, with_row, with_event, with_line, judge_tested, judge_said, setting_at, said_in, said_of, judge, judge_header, version_of, version_in, script_from, script_within, script_of}
+use Rattle.text_lines.specs.Names.{place_in}
+use Rattle.text_lines.specs.Reasons.{reasons}
+use Rattle.text_lines.specs.Shapes.{front, whole}
+use Rattle.step_tables.specs.Words.{words_of, is_name}
+use Rattle.step_tables.specs.Shapes.{init_at, task_at, task_line, order_at, orders_at, closing, row_said, event_said, end_said, setting_line, body_line}
+use Rattle.step_tables.specs.Judging.{value, signed_value, no_number, no_signed, named, unknown, place_no_number, place_outside, delay_no_number, delay_outside, kind_of, task_of, number_named, action_of, expiry_of, row_of, event_of, with_setting, with_task, with_row_at_end, with_row, with_event, with_line, judge_tested, judge_said, setting_at, said_in, said_of, judge, judge_header, version_of, version_in, script_from, script_within, script_of}
 use Rattle.step_tables.specs.Sound.{is_sound}
 
 -- texts beside their scripts
@@ -25,11 +25,11 @@ read_texts =
     ∷ []
 
 read_texts-are_read : map (λ e. script_of e.0) read_texts ≡ map (λ e. Ok e.1) read_texts
-unfolding words_of number plain_number signed is_name reasons_of class_of word_at past word_past name_at at_end init_at pinned_at shared_at tasklet_at task_place_at task_end task_line tasklet_line wake_at kill_at order_at orders_at after_at never_at delay_at closing row_start row_line event_line setting_line task_said tasklet_said row_said event_said end_said body_line value signed_value no_number no_signed named unknown place_no_number place_outside delay_no_number delay_outside kind_of task_of number_named reasons_named action_of expiry_of row_of event_of with_setting with_task with_row_at_end with_row with_event with_line judge_tested judge_said setting_at said_in said_of judge judge_header version_of version_in script_from line_over line_taken closed folded script_of is_sound
+unfolding words_of number plain_number signed is_name reasons place_in front whole init_at task_at task_line order_at orders_at closing row_said event_said end_said setting_line body_line value signed_value no_number no_signed named unknown place_no_number place_outside delay_no_number delay_outside kind_of task_of number_named action_of expiry_of row_of event_of with_setting with_task with_row_at_end with_row with_event with_line judge_tested judge_said setting_at said_in said_of judge judge_header version_of version_in script_from line_over line_taken closed folded script_of is_sound
 read_texts-are_read = refl
 
 read_texts-are_sound : map (λ e. is_sound e.1) read_texts ≡ true ∷ true ∷ true ∷ true ∷ true ∷ true ∷ []
-unfolding words_of number plain_number signed is_name reasons_of class_of word_at past word_past name_at at_end init_at pinned_at shared_at tasklet_at task_place_at task_end task_line tasklet_line wake_at kill_at order_at orders_at after_at never_at delay_at closing row_start row_line event_line setting_line task_said tasklet_said row_said event_said end_said body_line value signed_value no_number no_signed named unknown place_no_number place_outside delay_no_number delay_outside kind_of task_of number_named reasons_named action_of expiry_of row_of event_of with_setting with_task with_row_at_end with_row with_event with_line judge_tested judge_said setting_at said_in said_of judge judge_header version_of version_in script_from line_over line_taken closed folded script_of is_sound
+unfolding words_of number plain_number signed is_name reasons place_in front whole init_at task_at task_line order_at orders_at closing row_said event_said end_said setting_line body_line value signed_value no_number no_signed named unknown place_no_number place_outside delay_no_number delay_outside kind_of task_of number_named action_of expiry_of row_of event_of with_setting with_task with_row_at_end with_row with_event with_line judge_tested judge_said setting_at said_in said_of judge judge_header version_of version_in script_from line_over line_taken closed folded script_of is_sound
 read_texts-are_sound = refl
 
 -- texts beside their faults, as line and kind
@@ -114,7 +114,7 @@ bad_texts =
     ∷ []
 
 bad_texts-are_refused : map (λ e. script_of e.0) bad_texts ≡ map (λ e. Err (record { line = e.1.0; kind = e.1.1 })) bad_texts
-unfolding words_of number plain_number signed is_name reasons_of class_of word_at past word_past name_at at_end init_at pinned_at shared_at tasklet_at task_place_at task_end task_line tasklet_line wake_at kill_at order_at orders_at after_at never_at delay_at closing row_start row_line event_line setting_line task_said tasklet_said row_said event_said end_said body_line value signed_value no_number no_signed named unknown place_no_number place_outside delay_no_number delay_outside kind_of task_of number_named reasons_named action_of expiry_of row_of event_of with_setting with_task with_row_at_end with_row with_event with_line judge_tested judge_said setting_at said_in said_of judge judge_header version_of version_in script_from line_over line_taken closed folded script_of is_sound
+unfolding words_of number plain_number signed is_name reasons place_in front whole init_at task_at task_line order_at orders_at closing row_said event_said end_said setting_line body_line value signed_value no_number no_signed named unknown place_no_number place_outside delay_no_number delay_outside kind_of task_of number_named action_of expiry_of row_of event_of with_setting with_task with_row_at_end with_row with_event with_line judge_tested judge_said setting_at said_in said_of judge judge_header version_of version_in script_from line_over line_taken closed folded script_of is_sound
 bad_texts-are_refused = refl
 
 -- a limit, a text past it, and the fault: in the line of the byte behind the limit, unless it stands behind the line `end`
@@ -135,5 +135,5 @@ long_texts =
     ∷ []
 
 long_texts-are_refused : map (λ e. script_within e.0 e.1) long_texts ≡ map (λ e. Err (record { line = e.2.0; kind = e.2.1 })) long_texts
-unfolding words_of number plain_number signed is_name reasons_of class_of word_at past word_past name_at at_end init_at pinned_at shared_at tasklet_at task_place_at task_end task_line tasklet_line wake_at kill_at order_at orders_at after_at never_at delay_at closing row_start row_line event_line setting_line task_said tasklet_said row_said event_said end_said body_line value signed_value no_number no_signed named unknown place_no_number place_outside delay_no_number delay_outside kind_of task_of number_named reasons_named action_of expiry_of row_of event_of with_setting with_task with_row_at_end with_row with_event with_line judge_tested judge_said setting_at said_in said_of judge judge_header version_of version_in script_from line_over line_taken closed folded script_of is_sound
+unfolding words_of number plain_number signed is_name reasons place_in front whole init_at task_at task_line order_at orders_at closing row_said event_said end_said setting_line body_line value signed_value no_number no_signed named unknown place_no_number place_outside delay_no_number delay_outside kind_of task_of number_named action_of expiry_of row_of event_of with_setting with_task with_row_at_end with_row with_event with_line judge_tested judge_said setting_at said_in said_of judge judge_header version_of version_in script_from line_over line_taken closed folded script_of is_sound
 long_texts-are_refused = refl

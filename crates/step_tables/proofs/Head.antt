@@ -4,8 +4,7 @@ use Rattle.std.specs.Prelude.{Option, Some, Result, Ok, Err, IfOk, IsTrue, nat_l
 use Rattle.std.proofs.lemmas.Bool.Decides.{nat_tests}
 use Rattle.step_tables.specs.declared.tables.Script.{Script}
 use Rattle.step_tables.specs.declared.progress.Progress.{Progress}
-use Rattle.step_tables.specs.declared.shapes.Setting.{Setting}
-use Rattle.step_tables.specs.declared.shapes.Setting.TheVariants.{Workers, Depth, Start, Step, Rounds}
+use Rattle.step_tables.specs.Types.{Setting, Workers, Depth, Start, Step, Rounds}
 use Rattle.step_tables.specs.declared.faults.ScriptError.{ScriptError}
 use Rattle.step_tables.specs.declared.faults.ScriptFault.{ScriptFault}
 use Rattle.step_tables.specs.Views.{Gives}

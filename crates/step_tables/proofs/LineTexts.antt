@@ -3,10 +3,7 @@ use Rattle.std.proofs.Common.{◌≡◌, ℕ, suc, zero, ◌+◌, List, [], ◌�
 use Rattle.std.specs.Prelude.{Some, codes, decimal, flat_map, slice_get}
 use Rattle.std.proofs.lemmas.Option.{none-some}
 use Rattle.std.specs.List.{join_with_byte}
-use Rattle.step_tables.specs.declared.tables.Action.{Action}
-use Rattle.step_tables.specs.declared.tables.Row.{Row}
-use Rattle.step_tables.specs.declared.tables.TaskDef.{TaskDef}
-use Rattle.step_tables.specs.declared.tables.Event.{Event}
+use Rattle.step_tables.specs.Types.{Action, Row, TaskDef, Event}
 use Rattle.step_tables.specs.declared.tables.Script.{Script}
 use Rattle.step_tables.specs.Words.{Word}
 use Rattle.step_tables.specs.Shapes.{Said, ends}

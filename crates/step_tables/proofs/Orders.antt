@@ -21,7 +21,7 @@ unfolding orders_at
 no_order zero ws e = refl
 no_order (suc most) ws e = ap (λ o. and_more ws o (orders_at most)) e
 
-order_length : (o : Order) → 1 ≤ length (order_words o)
+pub order_length : (o : Order) → 1 ≤ length (order_words o)
 order_length (wakes name list) = omega arith
 order_length (kills name) = omega arith
 

@@ -1,29 +1,22 @@
 -- The row lines of a script in range pass.
 use Rattle.std.proofs.lemmas.Bool.{and_from, or_parts, or_from, ltb-true, lt-ltb}
 use Rattle.std.proofs.Common.{◌≡◌, ℕ, suc, zero, ◌+◌, ◌^◌, ◌<◌, Bool, true, false, cond, List, [], ◌∷◌, map, length, refl, ap, ◌∙◌, arith}
-use Rattle.std.specs.Prelude.{Some, None, is_none, is_some, unwrap_or, bytes_eq, ◌&&◌, not, nat_lt, nat_le, decimal, flat_map}
+use Rattle.std.specs.Prelude.{Some, None, is_none, unwrap_or, bytes_eq, ◌&&◌, not, nat_lt, nat_le, decimal, flat_map}
 use Rattle.std.specs.List.{list_all, list_any, position_or_len}
 use Rattle.std.proofs.lemmas.Bool.Decides.{nat_tests}
 use Rattle.std.proofs.lemmas.List.{length-map}
 use Rattle.std.proofs.lemmas.List.Folds.{list_all-append}
-use Rattle.step_tables.specs.declared.tables.Action.{Action}
-use Rattle.step_tables.specs.declared.tables.Action.TheVariants.{Wake, Kill}
-use Rattle.step_tables.specs.declared.tables.Expiry.{Expiry}
-use Rattle.step_tables.specs.declared.tables.Expiry.TheVariants.{Keep, After, Never}
-use Rattle.step_tables.specs.declared.tables.Kind.{Kind}
-use Rattle.step_tables.specs.declared.tables.Kind.TheVariants.{Pinned, Shared, Tasklet}
-use Rattle.step_tables.specs.declared.tables.Row.{Row}
-use Rattle.step_tables.specs.declared.tables.TaskDef.{TaskDef}
+use Rattle.step_tables.specs.Types.{Action, Wake, Kill, Expiry, Keep, After, Never, Kind, Pinned, Shared, Tasklet, Row, TaskDef}
 use Rattle.step_tables.specs.Words.{Word, is_name}
 use Rattle.step_tables.specs.Shapes.{RowLine}
 use Rattle.step_tables.specs.Text.{order_words, delay_words, name_at, order_said, delay_said, names_of}
 use Rattle.step_tables.specs.Sound.{within, is_sound_action, is_sound_expiry, is_sound_row, distinct_names}
 use Rattle.step_tables.specs.Limits.{most_actions, most_delay}
-use Rattle.step_tables.specs.Judging.{outside, delay_no_number, delay_outside, named, unknown, number_named, order_name, reasons_named, action_of, expiry_of, row_of, is_timerless, is_expiry}
+use Rattle.step_tables.specs.Judging.{outside, delay_no_number, delay_outside, named, unknown, number_named, order_name, action_of, expiry_of, row_of, is_timerless, is_expiry}
 use Rattle.std.proofs.lemmas.Slice.Eq.{bytes_eq-Decides}
 use Rattle.step_tables.proofs.RowsOf.{first_of_both, second_of_both}
 use Rattle.step_tables.proofs.Back.{IsOrder, AreOrders}
-use Rattle.step_tables.proofs.WordsAgain.{is_word, are_words, number_is_word, is_number, value_again, name_is_word, reasons_again, reasons_is_word}
+use Rattle.step_tables.proofs.WordsAgain.{is_word, are_words, number_is_word, is_number, value_again, name_is_word, reasons_is_word}
 use Rattle.step_tables.proofs.Bounds.{within_outside, delay_small}
 
 pub same_word : (w : Word) → bytes_eq w w ≡ true
@@ -79,14 +72,8 @@ known_again tasks i d h = ap is_none (named_again tasks i d h)
 
 -- an action in range is read as it was written
 pub action_again : (tasks : List TaskDef) (a : Action) → distinct_names (names_of tasks) ≡ true → is_sound_action (length tasks) a ≡ true → action_of tasks (order_said (names_of tasks) a) ≡ a
-unfolding action_of order_said number_named reasons_named
-action_again tasks (Wake i reasons) d e =
-    let range = within_range reasons (second_of_both (nat_lt i.0 (length tasks)) _ e) in
-    λ j. Wake (record { 0 = unwrap_or (named_again tasks i.0 d (ltb-true i.0 (length tasks) (first_of_both (nat_lt i.0 (length tasks)) _ e)) j) 0 })
-    (unwrap_or (reasons_again reasons range.0 range.1 j) 0)
-  where
-    within_range : (k : ℕ) → within 1 127 k ≡ true → (0 < k) × (k < 128)
-    within_range k f = grind (arith, nat_tests)
+unfolding action_of order_said number_named
+action_again tasks (Wake i reasons) d e = λ j. Wake (record { 0 = unwrap_or (named_again tasks i.0 d (ltb-true i.0 (length tasks) (first_of_both (nat_lt i.0 (length tasks)) _ e)) j) 0 }) reasons
 action_again tasks (Kill i) d e = λ j. Kill (record { 0 = unwrap_or (named_again tasks i.0 d (ltb-true i.0 (length tasks) e) j) 0 })
 
 within_reasons : (k : ℕ) → within 1 127 k ≡ true → (0 < k) × (k < 128)
@@ -100,7 +87,7 @@ pub order_fine : (tasks : List TaskDef) (a : Action) → list_all is_name (names
 unfolding order_said
 order_fine tasks (Wake i reasons) fine e =
     let range = within_reasons reasons (second_of_both (nat_lt i.0 (length tasks)) _ e) in
-    (name_fine tasks i.0 fine (ltb-true i.0 (length tasks) (first_of_both (nat_lt i.0 (length tasks)) _ e)), ap is_some (reasons_again reasons range.0 range.1))
+    (name_fine tasks i.0 fine (ltb-true i.0 (length tasks) (first_of_both (nat_lt i.0 (length tasks)) _ e)), range.0, range.1)
 order_fine tasks (Kill i) fine e = name_fine tasks i.0 fine (ltb-true i.0 (length tasks) e)
 
 pub order_known : (tasks : List TaskDef) (a : Action) → distinct_names (names_of tasks) ≡ true → is_sound_action (length tasks) a ≡ true → unknown tasks (order_name (order_said (names_of tasks) a)) ≡ false

@@ -5,8 +5,7 @@ use Rattle.std.specs.Prelude.{Some, ◌==◌, ◌&&◌, slice_get, slice_index, 
 use Rattle.std.specs.List.{list_all}
 use Rattle.std.proofs.lemmas.Bool.Decides.{nat_tests}
 use Rattle.std.proofs.lemmas.List.Folds.{list_all-append}
-use Rattle.step_tables.specs.declared.tables.Row.{Row}
-use Rattle.step_tables.specs.declared.tables.TaskDef.{TaskDef}
+use Rattle.step_tables.specs.Types.{Row, TaskDef}
 use Rattle.step_tables.specs.Words.{is_name}
 use Rattle.step_tables.specs.Sound.{within, is_sound_kind, is_sound_row, is_sound_task}
 use Rattle.step_tables.specs.Limits.{most_rows}

@@ -8,8 +8,7 @@ use Rattle.std.proofs.lemmas.Bool.Decides.{nat_tests}
 use Rattle.step_tables.specs.Sound.{within}
 use Rattle.step_tables.specs.declared.faults.FaultKind.TheVariants as kinds
 use Rattle.step_tables.specs.declared.progress.Progress.{Progress}
-use Rattle.step_tables.specs.declared.shapes.Setting.{Setting}
-use Rattle.step_tables.specs.declared.shapes.Setting.TheVariants.{Workers, Depth, Start, Step, Rounds}
+use Rattle.step_tables.specs.Types.{Setting, Workers, Depth, Start, Step, Rounds}
 use Rattle.step_tables.specs.Words.{Word, ◌>>=◌, pieces, is_empty, words_of}
 use Rattle.step_tables.specs.Shapes.{Said, sets, task, row, event, ends, setting_name}
 use Rattle.step_tables.specs.Text.{header_of, said_words, line_text, lines_text}

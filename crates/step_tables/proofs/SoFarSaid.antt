@@ -5,8 +5,7 @@ use Rattle.std.specs.Prelude.{Some, None, is_none, unwrap_or, bytes_eq, not, nat
 use Rattle.std.specs.List.{list_any, position_or_len}
 use Rattle.std.proofs.lemmas.Bool.Decides.{nat_tests}
 use Rattle.std.proofs.lemmas.Option.{none-some}
-use Rattle.step_tables.specs.declared.tables.Row.{Row}
-use Rattle.step_tables.specs.declared.tables.TaskDef.{TaskDef}
+use Rattle.step_tables.specs.Types.{Row, TaskDef}
 use Rattle.step_tables.specs.declared.progress.Progress.{Progress}
 use Rattle.step_tables.specs.Words.{Word}
 use Rattle.step_tables.specs.Shapes.{Order, wakes, kills, Delay, keeps, after, never, Place, pinned, shared, tasklet, TaskLine, RowLine, EventLine, Said, task, row, event, ends}
@@ -16,7 +15,7 @@ use Rattle.step_tables.proofs.Back.{IsOrder, AreOrders, bytes_same}
 use Rattle.step_tables.proofs.Good.{GoodRow, GoodEvent, GoodTask}
 use Rattle.step_tables.proofs.RowsOf.{Fresh, Filled}
 use Rattle.step_tables.proofs.Valid.{Valid}
-use Rattle.step_tables.proofs.WordsBack.{value_back, signed_value_back, reasons_back}
+use Rattle.step_tables.proofs.WordsBack.{value_back, signed_value_back}
 
 -- the lines of tasks, with the rows that they promised
 abbrev pub tasks_so_far : List TaskDef → List ℕ → List Said
@@ -76,7 +75,7 @@ name_back_at tasks name e = go (nat_lt (position_or_len (λ t. bytes_eq t.name n
 
 order_back : (tasks : List TaskDef) (o : Order) → IsOrder o → unknown tasks (order_name o) ≡ false → order_said (names_of tasks) (action_of tasks o) ≡ o
 unfolding order_said action_of
-order_back tasks (wakes name list) is known = λ i. wakes (name_back_at tasks name known i) (reasons_back list is.1 i)
+order_back tasks (wakes name f) is known = ap (λ n. wakes n f) (name_back_at tasks name known)
 order_back tasks (kills name) is known = ap kills (name_back_at tasks name known)
 
 orders_back : (tasks : List TaskDef) (os : List Order) → AreOrders os → list_any (λ o. unknown tasks (order_name o)) os ≡ false → map (order_said (names_of tasks)) (map (action_of tasks) os) ≡ os

@@ -1,20 +1,17 @@
 -- What good lines make is in range.
 use Rattle.std.proofs.lemmas.Bool.{and_from, or_parts, leb-false, le-leb, ltb-false, lt-ltb}
 use Rattle.std.proofs.Common.{◌≡◌, ℕ, ◌<◌, Bool, true, false, cond, List, [], ◌∷◌, map, length, refl, ap, sym, ◌∙◌, arith}
-use Rattle.std.specs.Prelude.{Option, Some, None, is_some, is_none, unwrap_or, bytes_eq, not, ◌&&◌, nat_le, nat_lt, ℤ}
+use Rattle.std.specs.Prelude.{Some, None, is_none, unwrap_or, bytes_eq, not, ◌&&◌, nat_le, nat_lt, ℤ}
 use Rattle.std.specs.List.{list_all, list_any, position_or_len}
 use Rattle.std.proofs.lemmas.Bool.Decides.{nat_tests}
 use Rattle.std.proofs.lemmas.List.{length-map}
-use Rattle.step_tables.specs.declared.tables.Kind.{Kind}
-use Rattle.step_tables.specs.declared.tables.Kind.TheVariants.{Pinned, Shared, Tasklet}
-use Rattle.step_tables.specs.declared.tables.TaskDef.{TaskDef}
+use Rattle.step_tables.specs.Types.{Kind, Pinned, Shared, Tasklet, TaskDef}
 use Rattle.step_tables.specs.declared.progress.Progress.{Progress}
-use Rattle.step_tables.specs.Words.{Word, reasons_of, is_name}
-use Rattle.text_lines.proofs.ReasonsAgain as lists
+use Rattle.step_tables.specs.Words.{Word, is_name}
 use Rattle.step_tables.specs.Shapes.{Order, wakes, kills, Delay, keeps, after, never, Place, pinned, shared, tasklet, TaskLine, RowLine, EventLine}
 use Rattle.step_tables.specs.Sound.{within, is_nice, is_sound_action, is_sound_expiry, is_sound_kind, is_sound_row}
 use Rattle.step_tables.specs.Limits.{most_rows, most_actions, most_delay}
-use Rattle.step_tables.specs.Judging.{value, signed_value, outside, outside_nice, place_outside, delay_outside, named, unknown, order_name, number_named, reasons_named, action_of, expiry_of, kind_of, task_of, row_of, event_of, barred, is_timerless, is_expiry, promised}
+use Rattle.step_tables.specs.Judging.{value, signed_value, outside, outside_nice, place_outside, delay_outside, named, unknown, order_name, number_named, action_of, expiry_of, kind_of, task_of, row_of, event_of, barred, is_timerless, is_expiry, promised}
 use Rattle.step_tables.proofs.Back.{IsOrder, AreOrders}
 use Rattle.step_tables.proofs.Good.{GoodRow, GoodEvent, GoodTask}
 use Rattle.step_tables.proofs.RowsOf.{IsTaskOf}
@@ -25,17 +22,8 @@ not_outside low high n e = grind (arith, nat_tests)
 not_outside_nice : (n : ℤ) → outside_nice n ≡ false → is_nice n ≡ true
 not_outside_nice n e = let (a, b) = or_parts _ _ e in and_from _ _ (ap not a) (ap not b)
 
--- a reason list has a reason, and only the seven
-reasons_range : (list : Word) → is_some (reasons_of list) ≡ true → within 1 127 (reasons_named list) ≡ true
-unfolding reasons_named
-reasons_range list e = go (reasons_of list) refl e
-  where
-    range : (k : ℕ) → 0 < k → k < 128 → within 1 127 k ≡ true
-    range k low high = grind (arith, nat_tests)
-
-    go : (o : Option ℕ) → reasons_of list ≡ o → is_some o ≡ true → within 1 127 (unwrap_or o 0) ≡ true
-    go None h s = absurd (cc)
-    go (Some k) h s = let back = lists.reasons_back list k h in range k back.1 back.2
+reasons_range : (f : ℕ) → 0 < f → f < 128 → within 1 127 f ≡ true
+reasons_range f some few = grind (arith, nat_tests)
 
 -- a known name has a task's number
 known_number : (tasks : List TaskDef) (name : Word) → unknown tasks name ≡ false → nat_lt (number_named tasks name) (length tasks) ≡ true
@@ -48,7 +36,7 @@ known_number tasks name e = go (nat_lt (position_or_len (λ task. bytes_eq task.
 
 sound_action : (tasks : List TaskDef) (order : Order) → IsOrder order → unknown tasks (order_name order) ≡ false → is_sound_action (length tasks) (action_of tasks order) ≡ true
 unfolding action_of
-sound_action tasks (wakes name list) is known = and_from _ _ (known_number tasks name known) (reasons_range list is.1)
+sound_action tasks (wakes name f) is known = and_from _ _ (known_number tasks name known) (reasons_range f is.1 is.2)
 sound_action tasks (kills name) is known = known_number tasks name known
 
 sound_actions : (tasks : List TaskDef) (orders : List Order) → AreOrders orders → list_any (λ order. unknown tasks (order_name order)) orders ≡ false → list_all (is_sound_action (length tasks)) (map (action_of tasks) orders) ≡ true

@@ -5,12 +5,9 @@ use Rattle.std.specs.List.{list_all}
 use Rattle.std.proofs.lemmas.Bool.{cases_Bool, and_from, or_from, eq-eqb, leb-true, lt-leb, ltb-true, le-ltb}
 use Rattle.std.proofs.lemmas.List.Folds.{list_all-append}
 use Rattle.step_tables.specs.declared.faults.FaultKind.TheVariants as kinds
-use Rattle.step_tables.specs.declared.tables.TaskDef.{TaskDef}
-use Rattle.step_tables.specs.declared.tables.Event.{Event}
+use Rattle.step_tables.specs.Types.{TaskDef, Event, Setting, Workers, Depth, Start, Step, Rounds}
 use Rattle.step_tables.specs.declared.tables.Script.{Script}
 use Rattle.step_tables.specs.declared.progress.Progress.{Progress}
-use Rattle.step_tables.specs.declared.shapes.Setting.{Setting}
-use Rattle.step_tables.specs.declared.shapes.Setting.TheVariants.{Workers, Depth, Start, Step, Rounds}
 use Rattle.step_tables.specs.Words.{pieces, is_empty, is_name}
 use Rattle.step_tables.specs.Shapes.{Said, sets, ends}
 use Rattle.step_tables.specs.Text.{header_of, said_words, task_said, rows_said, event_said, names_of, settings_said, body_said, lines_text, script_text}

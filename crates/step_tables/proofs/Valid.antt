@@ -6,9 +6,7 @@ use Rattle.std.proofs.lemmas.Bool.{eqb-true, and_from, or_parts, not-true, eq-eq
 use Rattle.std.proofs.lemmas.Bool.Decides.{nat_tests}
 use Rattle.std.proofs.lemmas.List.{map-append, length-set}
 use Rattle.std.proofs.lemmas.List.Folds.{list_all-append}
-use Rattle.step_tables.specs.declared.tables.Row.{Row}
-use Rattle.step_tables.specs.declared.tables.TaskDef.{TaskDef}
-use Rattle.step_tables.specs.declared.tables.Event.{Event}
+use Rattle.step_tables.specs.Types.{Row, TaskDef, Event}
 use Rattle.step_tables.specs.declared.progress.Progress.{Progress}
 use Rattle.step_tables.specs.Words.{Word, is_empty, is_name}
 use Rattle.step_tables.specs.Shapes.{TaskLine, RowLine, EventLine, Said, sets, task, row, event, ends}

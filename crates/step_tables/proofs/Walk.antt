@@ -6,8 +6,7 @@ use Rattle.std.specs.Prelude.{Option, Some, None, Result, Ok, Err, if◌then◌e
 use Rattle.step_tables.specs.declared.faults.FaultKind.{FaultKind}
 use Rattle.step_tables.specs.declared.tables.Script.{Script}
 use Rattle.step_tables.specs.declared.progress.Progress.{Progress}
-use Rattle.step_tables.specs.declared.shapes.Setting.{Setting}
-use Rattle.step_tables.specs.declared.shapes.Setting.TheVariants.{Workers, Depth, Start, Step, Rounds}
+use Rattle.step_tables.specs.Types.{Setting, Workers, Depth, Start, Step, Rounds}
 use Rattle.step_tables.specs.Words.{Word, is_empty, words_of}
 use Rattle.step_tables.specs.Shapes.{Said, sets}
 use Rattle.step_tables.specs.Text.{said_words}

@@ -7,12 +7,10 @@ use Rattle.std.specs.Fmt.{signed_decimal}
 use Rattle.std.proofs.lemmas.Bool.Decides.{nat_tests}
 use Rattle.std.proofs.lemmas.List.Folds.{list_all-append}
 use Rattle.std.proofs.lemmas.Fmt.{decimal_nonempty}
-use Rattle.sched_base.specs.declared.names.Class.{Class}
-use Rattle.sched_base.specs.declared.names.Class.TheVariants.{Urgent, Normal, Bulk, Heavy}
-use Rattle.step_tables.specs.Words.{Word, ◌>>=◌, only_if, pieces, is_empty, words_of, number_of, signed_of, is_name_byte, is_name, reasons_of, class_of}
+use Rattle.step_tables.specs.Types.{Class, Urgent, Normal, Bulk, Heavy}
+use Rattle.step_tables.specs.Words.{Word, ◌>>=◌, only_if, pieces, is_empty, words_of, number_of, signed_of, is_name_byte, is_name}
 use Rattle.text_lines.specs.Numbers.{below_zero, signed}
 use Rattle.text_lines.proofs.NumbersAgain as numbers
-use Rattle.text_lines.proofs.ReasonsAgain as lists
 use Rattle.std.proofs.lemmas.Bool.{agree_below_at, and_from}
 use Rattle.text_lines.specs.Added.{spelled}
 use Rattle.text_lines.specs.Names.{plain}
@@ -109,10 +107,7 @@ name_is_word [] e = absurd (cc)
 name_is_word (c ∷ cs) e =
     and_from (is_word_byte c) _ (letter_is_word c (first_of_both _ _ e)) (all_implied is_name_byte is_word_byte cs name_byte_is_word (second_of_both (nat_le (length cs) 15) _ (second_of_both (is_ascii_lowercase c) _ e)))
 
--- a set of reasons is read as it was written
-pub reasons_again : (k : ℕ) → 0 < k → k < 128 → reasons_of (reasons_text k) ≡ Some k
-reasons_again k some few = lists.reasons_again k some few
-
+-- reason lists are words
 reasons_words : (k : ℕ) → k < 128 → (k == 0 || is_word (reasons_text k)) ≡ true
 unfolding reasons_text
 reasons_words k few = agree_below_at (λ k. k == 0 || is_word (reasons_text k)) (λ k. true) 128 k refl few
@@ -126,14 +121,6 @@ reasons_is_word k some few = go (k == 0) refl (reasons_words k few)
     go : (b : Bool) → (k == 0) ≡ b → (b || is_word (reasons_text k)) ≡ true → is_word (reasons_text k) ≡ true
     go true f g = absurd (none k f some)
     go false f g = g
-
--- a class is read as it was written
-pub class_again : (c : Class) → class_of (class_name c) ≡ Some c
-unfolding class_of
-class_again Urgent = refl
-class_again Normal = refl
-class_again Bulk = refl
-class_again Heavy = refl
 
 pub class_is_word : (c : Class) → is_word (class_name c) ≡ true
 class_is_word Urgent = refl

@@ -1,17 +1,15 @@
 -- From the value of a word back to the word, and from words back to their line.
-use Rattle.std.proofs.Common.{◌≡◌, ℕ, suc, zero, true, false, List, [], ◌∷◌, refl, ap, sym, ◌∙◌, inl, inr, lit<}
-use Rattle.std.specs.Prelude.{Option, Some, None, option_map, is_some, is_none, unwrap_or, ◌==◌, decimal, ℤ, pos, negsuc}
+use Rattle.std.proofs.Common.{◌≡◌, ℕ, suc, zero, false, List, [], ◌∷◌, refl, ap, sym, ◌∙◌, inl, inr, lit<}
+use Rattle.std.specs.Prelude.{Option, Some, None, option_map, is_none, unwrap_or, ◌==◌, decimal, ℤ, pos, negsuc}
 use Rattle.std.specs.List.{join_with_byte}
 use Rattle.std.specs.Fmt.{signed_decimal}
 use Rattle.std.proofs.lemmas.Bool.{eqb-true}
 use Rattle.std.proofs.lemmas.Option.{none-some}
 use Rattle.std.proofs.lemmas.List.Splits.{join_with_byte-slice_split}
-use Rattle.step_tables.specs.Words.{Word, pieces, words_of, number_of, signed_of, reasons_of}
+use Rattle.step_tables.specs.Words.{Word, pieces, words_of, number_of, signed_of}
 use Rattle.text_lines.specs.Numbers.{below_zero, signed}
 use Rattle.text_lines.proofs.NumbersAgain as numbers
-use Rattle.text_lines.proofs.ReasonsAgain as lists
-use Rattle.step_tables.specs.Text.{reasons_text}
-use Rattle.step_tables.specs.Judging.{value, signed_value, no_number, no_signed, reasons_named}
+use Rattle.step_tables.specs.Judging.{value, signed_value, no_number, no_signed}
 use Rattle.text_lines.proofs.Steps.{bind_some, only_some}
 use Rattle.step_tables.proofs.Steps.{chose}
 
@@ -56,15 +54,6 @@ signed_value_back w e = go (signed_of w) refl e
     go : (o : Option ℤ) → signed_of w ≡ o → is_none o ≡ false → w ≡ signed_decimal (unwrap_or o (pos 0))
     go None h f = absurd (cc)
     go (Some n) h f = signed_back w n h
-
--- a reason list is what is written of its set
-pub reasons_back : (list : Word) → is_some (reasons_of list) ≡ true → reasons_text (reasons_named list) ≡ list
-unfolding reasons_named
-reasons_back list e = go (reasons_of list) refl e
-  where
-    go : (o : Option ℕ) → reasons_of list ≡ o → is_some o ≡ true → reasons_text (unwrap_or o 0) ≡ list
-    go None h s = absurd (cc)
-    go (Some k) h s = sym (lists.reasons_back list k h).0
 
 -- a line is its words with a space between each two
 pub words_back : (line : List ℕ) (ws : List Word) → words_of line ≡ Some ws → line ≡ join_with_byte 32 ws

@@ -1,11 +1,6 @@
 -- Scripts whose workers do not meet: docs/SCRIPT.md, "Closed by homes".
 use Rattle.std.specs.Prelude.{◌≡◌, ℕ, List, [], Option, Some, None, slice_get}
-use Rattle.step_tables.specs.declared.tables.Action.{Action}
-use Rattle.step_tables.specs.declared.tables.Action.TheVariants.{Wake, Kill}
-use Rattle.step_tables.specs.declared.tables.Kind.{Kind}
-use Rattle.step_tables.specs.declared.tables.Kind.TheVariants.{Pinned, Shared, Tasklet}
-use Rattle.step_tables.specs.declared.tables.Row.{Row}
-use Rattle.step_tables.specs.declared.tables.TaskDef.{TaskDef}
+use Rattle.step_tables.specs.Types.{Action, Wake, Kill, Kind, Pinned, Shared, Tasklet, Row, TaskDef}
 use Rattle.step_tables.specs.Tables.{Tables}
 
 -- the worker that runs tasks of this kind, where there is one

@@ -1,27 +1,17 @@
 -- What the lines of a script make, which fault a line has, and the script of a text: docs/SCRIPT.md, "Order" and "Faults".
 use Rattle.std.specs.Prelude.{ℕ, ◌+◌, ◌-◌, ℤ, pos, negsuc, int_lt, Bool, true, false, not, ◌&&◌, ◌||◌, List, [], ◌∷◌, ◌++◌, map, length, take, Option, Some, None, Result, Ok, Err, option_map, is_none, unwrap_or, ◌==◌, nat_lt, nat_le, bytes_eq, position, slice_get, slice_index, slice_index_or, slice_set, if◌then◌else◌}
 use Rattle.std.specs.List.{list_any}
-use Rattle.step_tables.specs.declared.tables.Action.{Action}
-use Rattle.step_tables.specs.declared.tables.Action.TheVariants.{Wake, Kill}
-use Rattle.step_tables.specs.declared.tables.Expiry.{Expiry}
-use Rattle.step_tables.specs.declared.tables.Expiry.TheVariants.{Keep, After, Never}
-use Rattle.step_tables.specs.declared.tables.Kind.{Kind}
-use Rattle.step_tables.specs.declared.tables.Kind.TheVariants.{Pinned, Shared, Tasklet}
-use Rattle.step_tables.specs.declared.tables.Row.{Row}
-use Rattle.step_tables.specs.declared.tables.TaskDef.{TaskDef}
-use Rattle.step_tables.specs.declared.tables.Event.{Event}
+use Rattle.step_tables.specs.Types.{Action, Wake, Kill, Expiry, Keep, After, Never, Kind, Pinned, Shared, Tasklet, Row, TaskDef, Event, Setting, Workers, Depth, Start, Step, Rounds}
 use Rattle.step_tables.specs.declared.tables.Script.{Script}
 use Rattle.step_tables.specs.declared.faults.ScriptFault.{ScriptFault}
 use Rattle.step_tables.specs.declared.limits.Limits.{Limits}
 use Rattle.step_tables.specs.declared.progress.Progress.{Progress}
-use Rattle.step_tables.specs.declared.shapes.Setting.{Setting}
-use Rattle.step_tables.specs.declared.shapes.Setting.TheVariants.{Workers, Depth, Start, Step, Rounds}
 use Rattle.step_tables.specs.declared.faults.FaultKind.{FaultKind}
 use Rattle.step_tables.specs.declared.faults.FaultKind.TheVariants as kinds
 use Rattle.text_lines.specs.Lines.{Format, read_within}
 use Rattle.step_tables.specs.Faults.{number_of_kind}
 use Rattle.step_tables.specs.Limits.{newest, limits_of, most_rows, most_actions, most_delay}
-use Rattle.step_tables.specs.Words.{Word, ◌>>=◌, ◌is◌, pieces, is_empty, words_of, number_of, signed_of, reasons_of}
+use Rattle.step_tables.specs.Words.{Word, ◌>>=◌, ◌is◌, pieces, is_empty, words_of, number_of, signed_of}
 use Rattle.step_tables.specs.Shapes as shapes
 use Rattle.step_tables.specs.Shapes.{Order, Delay, Place, TaskLine, RowLine, EventLine, Said, setting_line, body_line}
 
@@ -63,7 +53,7 @@ unknown tasks name = is_none (named tasks name)
 
 -- the name in an action
 abbrev pub order_name : Order → Word
-order_name (shapes.wakes name list) = name
+order_name (shapes.wakes name reasons) = name
 order_name (shapes.kills name) = name
 
 -- the task whose rows come now
@@ -218,13 +208,9 @@ task_of line = record { name = line.name; kind = kind_of line.place; init = line
 unfoldable pub number_named : List TaskDef → Word → ℕ
 number_named tasks name = unwrap_or (named tasks name) 0
 
--- the reasons of a reason list
-unfoldable pub reasons_named : Word → ℕ
-reasons_named list = unwrap_or (reasons_of list) 0
-
 -- the action that a line says
 unfoldable pub action_of : List TaskDef → Order → Action
-action_of tasks (shapes.wakes name list) = Wake (record { 0 = number_named tasks name }) (reasons_named list)
+action_of tasks (shapes.wakes name reasons) = Wake (record { 0 = number_named tasks name }) reasons
 action_of tasks (shapes.kills name) = Kill (record { 0 = number_named tasks name })
 
 -- the expiry that a line says

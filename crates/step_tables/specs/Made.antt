@@ -1,7 +1,6 @@
 -- Tables that are put together: docs/SCRIPT.md, "Tables".
 use Rattle.std.specs.Prelude.{List}
-use Rattle.step_tables.specs.declared.tables.TaskDef.{TaskDef}
-use Rattle.step_tables.specs.declared.tables.Event.{Event}
+use Rattle.step_tables.specs.Types.{TaskDef, Event}
 use Rattle.step_tables.specs.declared.tables.Settings.{Settings}
 use Rattle.step_tables.specs.Tables.{Tables}
 

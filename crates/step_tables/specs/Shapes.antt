@@ -1,14 +1,13 @@
 -- The shapes of a script's lines, with numbers still as words and tasks by name: docs/SCRIPT.md, "Lines".
-use Rattle.std.specs.Prelude.{ℕ, zero, suc, Bool, true, false, List, [], ◌∷◌, length, Option, Some, None, unwrap_or, is_some, codes, bytes_eq}
-use Rattle.sched_base.specs.declared.names.Class.{Class}
-use Rattle.step_tables.specs.declared.shapes.Setting.{Setting}
-use Rattle.step_tables.specs.declared.shapes.Setting.TheVariants.{Workers, Depth, Start, Step, Rounds}
-unfoldable pub use Rattle.text_lines.specs.Pieces.{word_at}
-use Rattle.step_tables.specs.Words.{Word, ◌>>=◌, ◌or_else◌, only_if, ◌is◌, is_empty, is_name, reasons_of, class_of}
+use Rattle.std.specs.Prelude.{ℕ, zero, suc, Bool, true, false, List, [], ◌∷◌, length, Option, Some, None, option_map, slice_index_or, codes, if◌then◌else◌}
+use Rattle.step_tables.specs.Types.{Class, Urgent, Normal, Bulk, Heavy, Setting, Workers, Depth, Start, Step, Rounds}
+use Rattle.text_lines.specs.Slots.{Slot, Value, word, any, reasons, choice, name, text_at, reasons_at, index_at}
+use Rattle.text_lines.specs.Shapes.{front, whole}
+use Rattle.step_tables.specs.Words.{Word, ◌>>=◌, ◌or_else◌, only_if, is_empty}
 
--- an action, with its task by name and its reasons as a word
+-- an action, with its task by name
 pub data Order : Type 0 where
-  wakes : Word → Word → Order
+  wakes : Word → ℕ → Order
   kills : Word → Order
 
 -- an expiry, or none
@@ -59,98 +58,85 @@ setting_name Start = codes "start"
 setting_name Step = codes "step"
 setting_name Rounds = codes "rounds"
 
--- the words after this one, which stands first
-unfoldable pub past : Word → List Word → Option (List Word)
-past text ws = do
-  first ← word_at ws
-  only_if (bytes_eq first.0 text) first.1
+-- the names of the classes, and the class at a place
+abbrev pub class_names : List Word
+class_names = codes "urgent" ∷ codes "normal" ∷ codes "bulk" ∷ codes "heavy" ∷ []
 
--- the word after this one, which stands first, and the words after both
-unfoldable pub word_past : Word → List Word → Option (Word × List Word)
-word_past text ws = past text ws >>= word_at
+abbrev pub class_at : ℕ → Class
+class_at i = slice_index_or (Urgent ∷ Normal ∷ Bulk ∷ Heavy ∷ []) i Heavy
 
--- a name, and the words after it
-unfoldable pub name_at : List Word → Option (Word × List Word)
-name_at ws = do
-  first ← word_at ws
-  only_if (is_name first.0) first
+-- the slots of each shape
+abbrev pub setting_slots : Setting → List Slot
+setting_slots setting = word (setting_name setting) ∷ any ∷ []
 
--- the value, where no word is left
-unfoldable pub at_end : {A : Type 0} → List Word → A → Option A
-at_end ws x = only_if (is_empty ws) x
+abbrev pub pinned_slots : List Slot
+pinned_slots = word (codes "task") ∷ name ∷ word (codes "home") ∷ any ∷ word (codes "nice") ∷ any ∷ word (codes "rows") ∷ any ∷ []
+
+abbrev pub shared_slots : List Slot
+shared_slots = word (codes "task") ∷ name ∷ word (codes "shared") ∷ word (codes "nice") ∷ any ∷ word (codes "rows") ∷ any ∷ []
+
+abbrev pub tasklet_slots : List Slot
+tasklet_slots = word (codes "tasklet") ∷ name ∷ word (codes "home") ∷ any ∷ word (codes "class") ∷ choice class_names ∷ word (codes "rows") ∷ any ∷ []
+
+abbrev pub init_slots : List Slot
+init_slots = word (codes "init") ∷ []
+
+abbrev pub row_slots : List Slot
+row_slots = word (codes "row") ∷ name ∷ any ∷ []
+
+abbrev pub wake_slots : List Slot
+wake_slots = word (codes "wake") ∷ name ∷ reasons ∷ []
+
+abbrev pub kill_slots : List Slot
+kill_slots = word (codes "kill") ∷ name ∷ []
+
+abbrev pub keeps_slots : List Slot
+keeps_slots = word (codes "next") ∷ any ∷ []
+
+abbrev pub after_slots : List Slot
+after_slots = word (codes "after") ∷ any ∷ keeps_slots
+
+abbrev pub never_slots : List Slot
+never_slots = word (codes "never") ∷ keeps_slots
+
+abbrev pub event_slots : List Slot
+event_slots = word (codes "event") ∷ any ∷ []
+
+abbrev pub end_slots : List Slot
+end_slots = word (codes "end") ∷ []
 
 -- whether `init` stands last, where nothing or it may stand
 unfoldable pub init_at : List Word → Option Bool
-init_at [] = Some false
-init_at (w ∷ ws) = only_if (w is "init") ws >>= λ rest. at_end rest true
+init_at ws = if is_empty ws then Some false else option_map (λ vs. true) (whole init_slots ws)
 
--- `home` number `nice` signed
-unfoldable pub pinned_at : List Word → Option (Place × List Word)
-pinned_at ws = do
-  home ← word_past (codes "home") ws
-  nice ← word_past (codes "nice") home.1
-  Some (pinned home.0 nice.0, nice.1)
+-- the values of a task's line, and whether it is to run from the start on
+unfoldable pub task_at : List Slot → List Word → Option (List Value × Bool)
+task_at slots ws = front slots ws >>= λ r. init_at r.1 >>= λ init. Some (r.0, init)
 
--- `shared nice` signed
-unfoldable pub shared_at : List Word → Option (Place × List Word)
-shared_at ws = do
-  rest ← past (codes "shared") ws
-  nice ← word_past (codes "nice") rest
-  Some (shared nice.0, nice.1)
+-- `task` name `home` number `nice` signed `rows` number, then nothing or `init`
+abbrev pub pinned_line : List Value → Bool → TaskLine
+pinned_line vs init = record { name = text_at vs 0; place = pinned (text_at vs 1) (text_at vs 2); rows = text_at vs 3; init = init }
 
--- `home` number `class` class
-unfoldable pub tasklet_at : List Word → Option (Place × List Word)
-tasklet_at ws = do
-  home ← word_past (codes "home") ws
-  class ← word_past (codes "class") home.1
-  is_class ← class_of class.0
-  Some (tasklet home.0 is_class, class.1)
+-- `task` name `shared nice` signed `rows` number, then nothing or `init`
+abbrev pub shared_line : List Value → Bool → TaskLine
+shared_line vs init = record { name = text_at vs 0; place = shared (text_at vs 1); rows = text_at vs 2; init = init }
 
--- where a task of a `task` line runs
-unfoldable pub task_place_at : List Word → Option (Place × List Word)
-task_place_at ws = pinned_at ws or_else shared_at ws
+-- `tasklet` name `home` number `class` class `rows` number, then nothing or `init`
+abbrev pub tasklet_line : List Value → Bool → TaskLine
+tasklet_line vs init = record { name = text_at vs 0; place = tasklet (text_at vs 1) (class_at (index_at vs 2)); rows = text_at vs 3; init = init }
 
--- `rows` number, then nothing or `init`
-unfoldable pub task_end : List Word → Option (Word × Bool)
-task_end ws = do
-  rows ← word_past (codes "rows") ws
-  init ← init_at rows.1
-  Some (rows.0, init)
-
--- name, place, `rows` number, then nothing or `init`
+-- the line of a task or a tasklet
 unfoldable pub task_line : List Word → Option TaskLine
-task_line ws = do
-  name ← name_at ws
-  place ← task_place_at name.1
-  end ← task_end place.1
-  Some (record { name = name.0; place = place.0; rows = end.0; init = end.1 })
+task_line ws =
+    option_map (λ r. pinned_line r.0 r.1) (task_at pinned_slots ws)
+    or_else option_map (λ r. shared_line r.0 r.1) (task_at shared_slots ws)
+    or_else option_map (λ r. tasklet_line r.0 r.1) (task_at tasklet_slots ws)
 
--- the same of a tasklet
-unfoldable pub tasklet_line : List Word → Option TaskLine
-tasklet_line ws = do
-  name ← name_at ws
-  place ← tasklet_at name.1
-  end ← task_end place.1
-  Some (record { name = name.0; place = place.0; rows = end.0; init = end.1 })
-
--- `wake` name reason-list
-unfoldable pub wake_at : List Word → Option (Order × List Word)
-wake_at ws = do
-  rest ← past (codes "wake") ws
-  name ← name_at rest
-  list ← word_at name.1
-  only_if (is_some (reasons_of list.0)) (wakes name.0 list.0, list.1)
-
--- `kill` name
-unfoldable pub kill_at : List Word → Option (Order × List Word)
-kill_at ws = do
-  rest ← past (codes "kill") ws
-  name ← name_at rest
-  Some (kills name.0, name.1)
-
--- an action, and the words after it
+-- `wake` name reason-list, or `kill` name, and the words after it
 unfoldable pub order_at : List Word → Option (Order × List Word)
-order_at ws = wake_at ws or_else kill_at ws
+order_at ws =
+    option_map (λ r. (wakes (text_at r.0 0) (reasons_at r.0 1), r.1)) (front wake_slots ws)
+    or_else option_map (λ r. (kills (text_at r.0 0), r.1)) (front kill_slots ws)
 
 -- the action that was found, and the actions that stand after it; or none, and all the words
 abbrev pub and_more : List Word → Option (Order × List Word) → (List Word → List Order × List Word) → List Order × List Word
@@ -162,89 +148,35 @@ unfoldable pub orders_at : ℕ → List Word → List Order × List Word
 orders_at zero ws = ([], ws)
 orders_at (suc most) ws = and_more ws (order_at ws) (orders_at most)
 
--- `after` number
-unfoldable pub after_at : List Word → Option (Delay × List Word)
-after_at ws = do
-  ticks ← word_past (codes "after") ws
-  Some (after ticks.0, ticks.1)
-
--- `never`
-unfoldable pub never_at : List Word → Option (Delay × List Word)
-never_at ws = do
-  rest ← past (codes "never") ws
-  Some (never, rest)
-
--- an expiry or nothing, and the words after it
-unfoldable pub delay_at : List Word → Delay × List Word
-delay_at ws = unwrap_or (after_at ws or_else never_at ws) (keeps, ws)
-
 -- an expiry or nothing, then `next` number
 unfoldable pub closing : List Word → Option (Delay × Word)
-closing ws = do
-  next ← word_past (codes "next") (delay_at ws).1
-  at_end next.1 ((delay_at ws).0, next.0)
+closing ws =
+    option_map (λ vs. (keeps, text_at vs 0)) (whole keeps_slots ws)
+    or_else option_map (λ vs. (after (text_at vs 0), text_at vs 1)) (whole after_slots ws)
+    or_else option_map (λ vs. (never, text_at vs 0)) (whole never_slots ws)
 
--- name number
-unfoldable pub row_start : List Word → Option (Word × Word × List Word)
-row_start ws = do
-  name ← name_at ws
-  number ← word_at name.1
-  Some (name.0, number.0, number.1)
+-- `row` name number, then actions, then an expiry or nothing, then `next` number
+unfoldable pub row_said : List Word → Option Said
+row_said ws = do
+  start ← front row_slots ws
+  close ← closing (orders_at (length start.1) start.1).1
+  Some (row (record { name = text_at start.0 0; number = text_at start.0 1; orders = (orders_at (length start.1) start.1).0; delay = close.0; next = close.1 }))
 
--- name number, then actions, then an expiry or nothing, then `next` number
-unfoldable pub row_line : List Word → Option RowLine
-row_line ws = do
-  start ← row_start ws
-  close ← closing (orders_at (length start.2) start.2).1
-  Some (record { name = start.0; number = start.1; orders = (orders_at (length start.2) start.2).0; delay = close.0; next = close.1 })
+-- `event` number action
+unfoldable pub event_said : List Word → Option Said
+event_said ws = do
+  start ← front event_slots ws
+  order ← order_at start.1
+  only_if (is_empty order.1) (event (record { round = text_at start.0 0; order = order.0 }))
 
--- number action
-unfoldable pub event_line : List Word → Option EventLine
-event_line ws = do
-  round ← word_at ws
-  order ← order_at round.1
-  at_end order.1 (record { round = round.0; order = order.0 })
+-- `end`
+unfoldable pub end_said : List Word → Option Said
+end_said ws = option_map (λ vs. ends) (whole end_slots ws)
 
 -- the setting's name, then a number
 unfoldable pub setting_line : Setting → List Word → Option Said
-setting_line setting ws = do
-  value ← word_past (setting_name setting) ws
-  at_end value.1 (sets setting value.0)
-
--- a line that says a task
-unfoldable pub task_said : List Word → Option Said
-task_said ws = do
-  rest ← past (codes "task") ws
-  line ← task_line rest
-  Some (task line)
-
--- a line that says a tasklet
-unfoldable pub tasklet_said : List Word → Option Said
-tasklet_said ws = do
-  rest ← past (codes "tasklet") ws
-  line ← tasklet_line rest
-  Some (task line)
-
--- a line that says a row
-unfoldable pub row_said : List Word → Option Said
-row_said ws = do
-  rest ← past (codes "row") ws
-  line ← row_line rest
-  Some (row line)
-
--- a line that says an event
-unfoldable pub event_said : List Word → Option Said
-event_said ws = do
-  rest ← past (codes "event") ws
-  line ← event_line rest
-  Some (event line)
-
--- the line that says the end
-unfoldable pub end_said : List Word → Option Said
-end_said ws = do
-  rest ← past (codes "end") ws
-  at_end rest ends
+setting_line setting ws = option_map (λ vs. sets setting (text_at vs 0)) (whole (setting_slots setting) ws)
 
 -- a line after the settings
 unfoldable pub body_line : List Word → Option Said
-body_line ws = task_said ws or_else tasklet_said ws or_else row_said ws or_else event_said ws or_else end_said ws
+body_line ws = row_said ws or_else option_map task (task_line ws) or_else event_said ws or_else end_said ws

@@ -1,15 +1,7 @@
 -- Which tables are a script's: docs/SCRIPT.md, "Tables".
 use Rattle.std.specs.Prelude.{ℕ, ℤ, pos, negsuc, int_lt, Bool, true, false, not, ◌&&◌, List, [], ◌∷◌, length, bytes_eq, nat_lt, nat_le, map}
 use Rattle.std.specs.List.{list_all, list_any}
-use Rattle.step_tables.specs.declared.tables.Action.{Action}
-use Rattle.step_tables.specs.declared.tables.Action.TheVariants.{Wake, Kill}
-use Rattle.step_tables.specs.declared.tables.Expiry.{Expiry}
-use Rattle.step_tables.specs.declared.tables.Expiry.TheVariants.{Keep, After, Never}
-use Rattle.step_tables.specs.declared.tables.Kind.{Kind}
-use Rattle.step_tables.specs.declared.tables.Kind.TheVariants.{Pinned, Shared, Tasklet}
-use Rattle.step_tables.specs.declared.tables.Row.{Row}
-use Rattle.step_tables.specs.declared.tables.TaskDef.{TaskDef}
-use Rattle.step_tables.specs.declared.tables.Event.{Event}
+use Rattle.step_tables.specs.Types.{Action, Wake, Kill, Expiry, Keep, After, Never, Kind, Pinned, Shared, Tasklet, Row, TaskDef, Event}
 use Rattle.step_tables.specs.declared.limits.Limits.{Limits}
 use Rattle.step_tables.specs.Limits.{newest, limits_of, most_rows, most_actions, most_delay}
 use Rattle.step_tables.specs.Tables.{Tables}

@@ -1,7 +1,6 @@
 -- The tables of a script, as contracts see them: docs/SCRIPT.md, "Tables".
 use Rattle.std.specs.Prelude.{ℕ, List}
-use Rattle.step_tables.specs.declared.tables.TaskDef.{TaskDef}
-use Rattle.step_tables.specs.declared.tables.Event.{Event}
+use Rattle.step_tables.specs.Types.{TaskDef, Event}
 
 -- the version of the format, the settings, the tasks and the events
 pub record Tables : Type 0 where

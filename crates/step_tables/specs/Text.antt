@@ -2,19 +2,8 @@
 use Rattle.std.specs.Prelude.{ℕ, ◌+◌, Bool, true, false, List, [], ◌∷◌, ◌++◌, map, length, codes, flat_map, decimal, slice_index_or, ◌==◌, if◌then◌else◌}
 use Rattle.std.specs.List.{join_with_byte}
 use Rattle.std.specs.Fmt.{signed_decimal}
-use Rattle.sched_base.specs.declared.names.Class.{Class}
-use Rattle.sched_base.specs.declared.names.Class.TheVariants.{Urgent, Normal, Bulk, Heavy}
-use Rattle.step_tables.specs.declared.tables.Action.{Action}
-use Rattle.step_tables.specs.declared.tables.Action.TheVariants.{Wake, Kill}
-use Rattle.step_tables.specs.declared.tables.Expiry.{Expiry}
-use Rattle.step_tables.specs.declared.tables.Expiry.TheVariants.{Keep, After, Never}
-use Rattle.step_tables.specs.declared.tables.Kind.{Kind}
-use Rattle.step_tables.specs.declared.tables.Kind.TheVariants.{Pinned, Shared, Tasklet}
-use Rattle.step_tables.specs.declared.tables.Row.{Row}
-use Rattle.step_tables.specs.declared.tables.TaskDef.{TaskDef}
-use Rattle.step_tables.specs.declared.tables.Event.{Event}
+use Rattle.step_tables.specs.Types.{Class, Urgent, Normal, Bulk, Heavy, Action, Wake, Kill, Expiry, Keep, After, Never, Kind, Pinned, Shared, Tasklet, Row, TaskDef, Event, Workers, Depth, Start, Step, Rounds}
 use Rattle.step_tables.specs.declared.tables.Script.{Script}
-use Rattle.step_tables.specs.declared.shapes.Setting.TheVariants.{Workers, Depth, Start, Step, Rounds}
 pub use Rattle.text_lines.specs.Added.{spaced}
 unfoldable pub use Rattle.text_lines.specs.Reasons.{reasons_word as reasons_text}
 use Rattle.step_tables.specs.Words.{Word}
@@ -29,7 +18,7 @@ class_name Heavy = codes "heavy"
 
 -- the words of an action
 abbrev pub order_words : Order → List Word
-order_words (wakes name list) = codes "wake" ∷ name ∷ list ∷ []
+order_words (wakes name f) = codes "wake" ∷ name ∷ reasons_text f ∷ []
 order_words (kills name) = codes "kill" ∷ name ∷ []
 
 -- the words of an expiry, or none
@@ -69,7 +58,7 @@ name_at names i = slice_index_or names i []
 
 -- what is said of an action
 unfoldable pub order_said : List Word → Action → Order
-order_said names (Wake i reasons) = wakes (name_at names i.0) (reasons_text reasons)
+order_said names (Wake i reasons) = wakes (name_at names i.0) reasons
 order_said names (Kill i) = kills (name_at names i.0)
 
 -- what is said of an expiry

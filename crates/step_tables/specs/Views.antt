@@ -31,10 +31,6 @@ place_view (places.Pinned home nice) = pinned home.now nice.now
 place_view (places.Shared nice) = shared nice.now
 place_view (places.Tasklet home class) = tasklet home.now class
 
--- a place, and the words after it
-abbrev pub place_and_rest : CodePlace × Words → Place × List Word
-place_and_rest found = (place_view found.0, words_in found.1)
-
 -- an expiry
 abbrev pub delay_view : CodeDelay → Delay
 delay_view delays.Keeps = keeps
@@ -43,7 +39,7 @@ delay_view delays.Never = never
 
 -- an action
 abbrev pub order_view : CodeOrder → Order
-order_view (orders.Wakes name list) = wakes name.now list.now
+order_view (orders.Wakes name reasons) = wakes name.now reasons
 order_view (orders.Kills name) = kills name.now
 
 -- an action, and the words after it
@@ -53,10 +49,6 @@ order_and_rest found = (order_view found.0, words_in found.1)
 -- a task line
 abbrev pub task_view : CodeTaskLine → TaskLine
 task_view line = record { name = line.name.now; place = place_view line.place; rows = line.rows.now; init = line.init }
-
--- an expiry, and the words after it
-abbrev pub delay_and_rest : CodeDelay × Words → Delay × List Word
-delay_and_rest found = (delay_view found.0, words_in found.1)
 
 -- a row line
 abbrev pub row_view : CodeRowLine → RowLine

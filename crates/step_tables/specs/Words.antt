@@ -2,14 +2,11 @@
 use Prim.Native.String.{String}
 use Rattle.std.specs.Prelude.{ℕ, ℤ, Bool, not, ◌&&◌, List, Option, codes, bytes_eq, nat_lt}
 use Rattle.std.specs.List.{list_all, list_any}
-use Rattle.sched_base.specs.declared.names.Class.{Class}
-use Rattle.sched_base.specs.declared.names.Class.TheVariants.{Urgent, Normal, Bulk, Heavy}
 use Rattle.text_lines.specs.Numbers.{number, signed}
 pub use Rattle.text_lines.specs.Steps.{◌>>=◌, ◌or_else◌, only_if, is_empty}
 pub use Rattle.text_lines.specs.Pieces.{Word, pieces}
 unfoldable pub use Rattle.text_lines.specs.Names.{is_name}
 pub use Rattle.text_lines.specs.Names.{is_name_byte}
-unfoldable pub use Rattle.text_lines.specs.Reasons.{reasons as reasons_of}
 
 -- whether the word is spelled so
 infix 40 ◌is◌
@@ -27,7 +24,3 @@ number_of w = number 9999999999 w
 -- a number, or a number other than 0 behind a minus sign
 abbrev pub signed_of : Word → Option ℤ
 signed_of w = signed 9999999999 w
-
--- the class of this name
-unfoldable pub class_of : Word → Option Class
-class_of w = only_if (w is "urgent") Urgent or_else only_if (w is "normal") Normal or_else only_if (w is "bulk") Bulk or_else only_if (w is "heavy") Heavy

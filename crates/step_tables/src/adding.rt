@@ -142,7 +142,7 @@ impl Progress {
         ensures { OnOk result (self.new ≡ with_event self.old (event_view line.now)) }
     {
         let event = event_of(&self.tasks, self.rounds, line);
-        self.events.push(event)
+        self.events.add(event)
     }
 
     /// Adds a line that may come and has no fault; a failure leaves some of it.

@@ -19,7 +19,7 @@ mod words;
 mod writing;
 
 pub use faults::{FaultKind, ScriptError, ScriptFault};
-pub use lists::{Actions, Events, Name, Rows, Tasks};
+pub use lists::{Actions, Events, Listed, Name, Rows, Tasks};
 pub use nexts::Nexts;
 pub use tables::{Action, Event, Expiry, Kind, Row, Script, Settings, TaskDef};
 

@@ -30,10 +30,9 @@ pub(crate) struct Limits {
 
 impl Limits {
     /// The limits of a version. Versions 1 and 2 have the same.
-    pub fn of(version: u32) -> Limits
-        ensures { result ≡ limits_of version }
+    pub fn of(_version: u32) -> Limits
+        ensures { result ≡ limits_of _version }
     {
-        let _ = version;
         Limits {
             bytes: 4_194_304,
             workers: 16,

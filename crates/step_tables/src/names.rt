@@ -2,16 +2,15 @@
 
 ghost use Rattle.std.specs.Prelude.{◌≡◌, map, bytes_eq, IfOk};
 ghost use Rattle.std.specs.List.{list_any};
-ghost use Rattle.step_tables.specs.Judging.{unknown, order_name, number_named, reasons_named, action_of};
+ghost use Rattle.step_tables.specs.Judging.{unknown, order_name, number_named, action_of};
 ghost use Rattle.step_tables.specs.Views.{order_view};
 
 use crate::lists::Actions;
 use crate::named_tasks::NamedTasks;
 use crate::shapes::Order;
 use crate::tables::{Action, TaskDef};
-use sched_base::{Reasons, TaskId};
+use sched_base::TaskId;
 use std::alloc::{AllocError, Global};
-use text_lines::reasons as reasons_of;
 
 /// Whether this is the task's name.
 pub(crate) fn is_named(task: &TaskDef, name: &[u8]) -> bool
@@ -67,26 +66,13 @@ pub(crate) fn any_unknown(tasks: &NamedTasks, orders: &[Order<'_>]) -> bool
     holds_unknown(tasks, orders)
 }
 
-/// The reasons of a reason list.
-#[tactic(auto, unfolding(crate::specs::Judging::reasons_named))]
-fn reasons_named(list: &[u8]) -> Reasons
-    ensures { result ≡ reasons_named list.now }
-{
-    match reasons_of(list) {
-        None => Reasons::EMPTY,
-        Some(reasons) => reasons,
-    }
-}
-
 /// The action, with its task's number.
 #[tactic(auto, unfolding(crate::specs::Judging::action_of))]
 pub(crate) fn action_of(tasks: &NamedTasks, order: &Order<'_>) -> Action
     ensures { result ≡ action_of tasks.now (order_view order.now) }
 {
     match *order {
-        Order::Wakes(name, list) => {
-            Action::Wake(TaskId(number_named(tasks, name)), reasons_named(list))
-        }
+        Order::Wakes(name, reasons) => Action::Wake(TaskId(number_named(tasks, name)), reasons),
         Order::Kills(name) => Action::Kill(TaskId(number_named(tasks, name))),
     }
 }

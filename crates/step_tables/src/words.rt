@@ -3,9 +3,8 @@
 ghost use Rattle.std.specs.Prelude.{◌≡◌, ◌^◌, ◌<◌, nat_lt, option_map, IfSome};
 ghost use Rattle.std.specs.List.{list_all, list_any};
 ghost use Rattle.text_lines.specs.Pieces.{pieces, words_in};
-ghost use Rattle.step_tables.specs.Words.{is_empty, words_of, number_of, signed_of, class_of};
+ghost use Rattle.step_tables.specs.Words.{is_empty, words_of, number_of, signed_of};
 
-use sched_base::Class;
 use text_lines::{Words, number, signed};
 
 /// The most that a number of ten digits may be.
@@ -60,22 +59,4 @@ pub(crate) fn signed_of(word: &[u8]) -> Option<i64>
     ensures { result ≡ signed_of word.now }
 {
     signed(word, MOST_NUMBER)
-}
-
-/// The class of this name.
-#[tactic(auto, unfolding(crate::specs::Words::class_of))]
-pub(crate) fn class_of(word: &[u8]) -> Option<Class>
-    ensures { result ≡ class_of word.now }
-{
-    if word == b"urgent".as_slice() {
-        Some(Class::Urgent)
-    } else if word == b"normal".as_slice() {
-        Some(Class::Normal)
-    } else if word == b"bulk".as_slice() {
-        Some(Class::Bulk)
-    } else if word == b"heavy".as_slice() {
-        Some(Class::Heavy)
-    } else {
-        None
-    }
 }

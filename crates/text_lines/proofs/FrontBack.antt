@@ -1,14 +1,15 @@
 -- What is read by a shape is written as the same words.
-use Rattle.std.proofs.Common.{◌≡◌, List, [], ◌∷◌, ◌++◌, refl, ap, sym, ◌∙◌, arith, subst}
+use Rattle.std.proofs.Common.{◌≡◌, List, [], ◌∷◌, ◌++◌, refl, ap, sym, ◌∙◌, true, arith, subst, append-nil}
 use Rattle.std.specs.Prelude.{Option, Some, None, bytes_eq}
 use Rattle.std.specs.Cmp.Lexicographic.{same_text}
 use Rattle.std.proofs.lemmas.Option.{none-some}
+use Rattle.text_lines.specs.Steps.{is_empty}
 use Rattle.text_lines.specs.Pieces.{Word}
 use Rattle.text_lines.specs.Numbers.{number}
 use Rattle.text_lines.specs.Slots.{Slot, Value, of_small, of_number, of_reasons, of_index, of_text}
 use Rattle.text_lines.specs.Slots as slot
-use Rattle.text_lines.specs.Shapes.{Front, value_in, taken, alone, led_by, front, spelled_in, behind, words, FitsIn, Fits}
-use Rattle.text_lines.proofs.Steps.{some_same, map_some, only_some}
+use Rattle.text_lines.specs.Shapes.{Front, value_in, taken, alone, led_by, front, whole, spelled_in, behind, words, FitsIn, Fits}
+use Rattle.text_lines.proofs.Steps.{some_same, bind_some, map_some, only_some}
 use Rattle.text_lines.proofs.NumbersAgain.{number_back}
 use Rattle.text_lines.proofs.HexAgain.{hex_back}
 use Rattle.text_lines.proofs.ReasonsAgain.{reasons_back, pending_back}
@@ -85,3 +86,15 @@ front_back (s ∷ ss) (w ∷ ws) x e =
     subst (FrontBack (s ∷ ss) (w ∷ ws)) l.4 (cons here.0 (rest.0 ∙ ap (λ vs. words ss vs ++ l.1.1) (sym left)), (here.1, subst (Fits ss) (sym left) rest.1)) where
       cons : {a b : Word} {xs ys : List Word} → a ≡ b → xs ≡ ys → (a ∷ xs) ≡ (b ∷ ys)
       cons p q = cc
+
+-- the same where no word is left
+pub whole_back : (ss : List Slot) (ws : List Word) (vs : List Value) → whole ss ws ≡ Some vs → (ws ≡ words ss vs) × Fits ss vs
+unfolding whole
+whole_back ss ws vs e =
+    let r = bind_some (front ss ws) _ vs e in
+    let last = only_some (is_empty r.0.1) r.0.0 vs r.2 in
+    let back = front_back ss ws r.0 r.1 in
+    (back.0 ∙ (λ i. words ss (last.1 i) ++ none r.0.1 last.0 i) ∙ append-nil (words ss vs), subst (Fits ss) last.1 back.1) where
+      none : (xs : List Word) → is_empty xs ≡ true → xs ≡ []
+      none [] e = refl
+      none (x ∷ xs) e = cc

@@ -16,6 +16,7 @@ pub mod Plain
 pub mod FrontSteps
 pub mod FrontAgain
 pub mod FrontBack
+pub mod FrontApart
 pub mod Parts
 pub mod PartsRead
 pub mod LinesRead

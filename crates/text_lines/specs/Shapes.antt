@@ -4,7 +4,7 @@ use Rattle.std.specs.List.{list_all}
 use Rattle.std.specs.Str.{bytes_eq}
 use Rattle.text_lines.specs.declared.shapes.Found.{Found}
 use Rattle.text_lines.specs.declared.shapes.Found.TheVariants as found
-use Rattle.text_lines.specs.Steps.{◌>>=◌, only_if}
+use Rattle.text_lines.specs.Steps.{◌>>=◌, only_if, is_empty}
 use Rattle.text_lines.specs.Pieces.{Word}
 use Rattle.text_lines.specs.Numbers.{number}
 use Rattle.text_lines.specs.Masks.{hex, hex_word}
@@ -62,6 +62,10 @@ unfoldable pub front : List Slot → List Word → Option Front
 front [] ws = Some ([], ws)
 front (s ∷ ss) [] = None
 front (s ∷ ss) (w ∷ ws) = led_by (taken s w) (front ss ws)
+
+-- the values of the words, where no word is left
+unfoldable pub whole : List Slot → List Word → Option (List Value)
+whole ss ws = front ss ws >>= λ r. only_if (is_empty r.1) r.0
 
 -- the word that is written in a slot, of which the value stands first
 abbrev pub spelled_in : Slot → List Value → Word

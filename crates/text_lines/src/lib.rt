@@ -20,5 +20,5 @@ pub use putting::{
     put_bytes, put_mask, put_number, put_pending, put_reasons, put_signed, put_word,
 };
 pub use reason_words::{pending, reasons};
-pub use shapes::{Values, front, put_line, put_row, put_slots};
+pub use shapes::{Values, front, put_line, put_row, put_slots, whole};
 pub use slots::{Row, Slot, Value, index_at, number_at, reasons_at, small_at, text_at};

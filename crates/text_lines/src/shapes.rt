@@ -5,7 +5,7 @@ ghost use Rattle.text_lines.specs.Pieces.{words_in};
 ghost use Rattle.text_lines.specs.Numbers.{number};
 ghost use Rattle.text_lines.specs.Added.{Kept, spaced, spelled};
 ghost use Rattle.text_lines.specs.Slots.{slot_of, slots_of, row_of, value_of, values_of};
-ghost use Rattle.text_lines.specs.Shapes.{value_in, taken, taken_view, value_count, front, behind, spelled_in, words, row_words};
+ghost use Rattle.text_lines.specs.Shapes.{value_in, taken, taken_view, value_count, front, whole, behind, spelled_in, words, row_words};
 
 use crate::cursor::Words;
 use crate::naming::{is_name, place_in};
@@ -101,6 +101,18 @@ pub fn front<'a>(slots: &[Slot], words: Words<'a>) -> Option<(Values<'a>, Words<
         rest = more;
     }
     Some((values, rest))
+}
+
+/// The values of the words, where no word is left.
+#[tactic(auto, unfolding(crate::specs::Shapes::whole))]
+pub fn whole<'a>(slots: &[Slot], words: Words<'a>) -> Option<Values<'a>>
+    requires { value_count (slots_of slots.now) ≤ 4 }
+    ensures { option_map (λ vs. values_of vs.items) result ≡ whole (slots_of slots.now) (words_in words.entry) }
+{
+    match front(slots, words) {
+        Some((values, rest)) => { if rest.is_at_end() { Some(values) } else { None } }
+        None => None,
+    }
 }
 
 /// Appends the word of a slot, of which the value stands first.

@@ -13,7 +13,7 @@ loop-order-smaller c =
 pub loop-order-preserved : goal.loop-order-preserved
 loop-order-preserved c =
     let P : List Order → Type 0 = λ found. SoFar (words_in c.args.words) found (words_in c.in-Some.more) in
-    let pushed = ap (map order_view) c.in_ok-push.ensures.items ∙ map-append order_view c.loop-order.orders.items (c.in-Some.order ∷ []) in
+    let pushed = ap (map order_view) c.in_ok-extend_from_slice.ensures.items ∙ map-append order_view c.loop-order.orders.items (c.in-Some.order ∷ []) in
     subst P (sym pushed) (more_orders (words_in c.args.words) (map order_view c.loop-order.orders.items) (words_in c.loop-order.rest) (order_view c.in-Some.order, words_in c.in-Some.more) (sym c.in-Some.ensures) c.loop-order.invariant)
 
 pub returns : goal.returns
