@@ -1,14 +1,12 @@
 -- The limit on the bytes of a transcript.
-use Rattle.std.proofs.Common.{◌≡◌, ℕ, ◌≤◌, ◌<◌, suc, List, length, take, Result, Ok, Err, ap, ◌∙◌, sym}
-use Rattle.std.specs.List.{All, AllByRecursion}
+use Rattle.std.proofs.Common.{◌≡◌, ℕ, ◌≤◌, ◌<◌, suc, List, length, take, Result, Ok, Err, ap, ◌∙◌}
+use Rattle.std.specs.List.{All}
 use Rattle.std.specs.Result.{IfOk}
 use Rattle.std.proofs.lemmas.List.Elements.{All-from_recursion}
-use Rattle.text_lines.specs.Lines.{read_within, read_whole}
+use Rattle.text_lines.specs.Lines.{read_within}
 use Rattle.text_lines.proofs.LimitLaws as limits
 use Rattle.text_lines.proofs.LongTexts as longs
-use Rattle.transcript.specs.declared.lines.Line.{Line}
-use Rattle.transcript.specs.declared.shape.Progress.{Progress}
-use Rattle.transcript.specs.declared.faults.FaultKind.{FaultKind}
+use Rattle.transcript.specs.Types.{Line}
 use Rattle.transcript.specs.declared.faults.TextError.{TextError}
 use Rattle.transcript.specs.HasText.{HasTextLine}
 use Rattle.transcript.specs.Judging.{transcripts, opening, byte_limit, lines_read, lines_of, run_of, run_within, Gives}

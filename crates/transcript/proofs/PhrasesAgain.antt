@@ -1,14 +1,12 @@
 -- A line of a run is read as it is written.
-use Rattle.std.proofs.Common.{◌≡◌, ℕ, ◌^◌, ◌<◌, Bool, true, false, ◌==◌, List, [], ◌∷◌, ◌++◌, Option, Some, decimal, refl, ap, ◌∙◌, sym, arith, append-nil}
+use Rattle.std.proofs.Common.{◌≡◌, ℕ, ◌^◌, ◌<◌, Bool, true, false, ◌==◌, List, [], ◌∷◌, ◌++◌, Some, refl, ap, ◌∙◌, sym, arith, append-nil}
 use Rattle.std.specs.List.{list_all, join_with_byte}
 use Rattle.std.proofs.lemmas.List.Folds.{list_all-append}
 use Rattle.std.proofs.lemmas.Bool.{and_from}
 use Rattle.task_machine.specs.declared.task.Stand.TheVariants as stands
-use Rattle.task_machine.specs.declared.task.Seen.{Seen}
+use Rattle.transcript.specs.Types.{Seen, Call, Reply, Line, LineName, Said, Holds}
 use Rattle.task_machine.specs.declared.task.Seen.TheVariants as seens
-use Rattle.task_machine.specs.declared.calls.Call.{Call}
 use Rattle.task_machine.specs.declared.calls.Call.TheVariants as calls
-use Rattle.task_machine.specs.declared.calls.Reply.{Reply}
 use Rattle.task_machine.specs.declared.calls.Reply.TheVariants as replies
 use Rattle.text_lines.specs.Steps.{◌>>=◌, ◌or_else◌}
 use Rattle.text_lines.specs.Pieces.{Word}
@@ -20,19 +18,15 @@ use Rattle.text_lines.proofs.NumbersAgain.{number_again}
 use Rattle.text_lines.proofs.FrontAgain.{front_again}
 use Rattle.text_lines.proofs.Parts.{part_again, part_alone}
 use Rattle.text_lines.proofs.Plain.{decimal_plain, row_plain, slots_plain, pieces_joined}
-use Rattle.transcript.specs.declared.lines.Line.{Line}
 use Rattle.transcript.specs.declared.lines.Line.TheVariants as line
 use Rattle.transcript.specs.declared.shape.Answer.TheVariants as answers
 use Rattle.transcript.specs.declared.shape.SeenName.TheVariants as views
-use Rattle.transcript.specs.declared.shape.LineName.{LineName}
 use Rattle.transcript.specs.declared.shape.LineName.TheVariants as kinds
-use Rattle.transcript.specs.declared.shape.Said.{Said}
-use Rattle.transcript.specs.declared.shape.Said.TheVariants.{Holds}
 use Rattle.transcript.specs.Tables.{call_row, call_names, answer_of, mask_slots, seen_row, seen_names, line_row, line_names}
 use Rattle.transcript.specs.HasText.{HasTextSeen, HasTextCall, HasTextLine, TellsTask, FitsReply, FitsCall}
 use Rattle.transcript.specs.Spelling.{name_of, call_values, call_words, seen_name, seen_values, seen_words, fate_index, reply_words, caller_word, end_index, line_words}
 use Rattle.transcript.specs.Grammar.{call_of, seen_of, line_of, at_end, seen_in, reply_in, entry_of, entry_in, plain_in, said_by, said}
-use Rattle.transcript.proofs.Rows.{call_found, call_sound, call_plain, call_slots_plain, seen_found, seen_sound, seen_plain, seen_slots_plain, line_found, line_sound, line_plain, line_slots_plain}
+use Rattle.transcript.proofs.Rows.{call_found, call_sound, call_plain, call_slots_plain, seen_found, seen_sound, seen_plain, seen_slots_plain, line_found, line_sound, line_slots_plain}
 
 -- a call's values are those of its row, and make the call
 call_same : (c : Call) → call_of (name_of c) (call_values c) ≡ c

@@ -1,38 +1,28 @@
 -- What is read of a line is written as the same words.
-use Rattle.std.proofs.Common.{◌≡◌, ℕ, ◌^◌, ◌<◌, Bool, true, false, ◌==◌, if◌then◌else◌, List, [], ◌∷◌, ◌++◌, Option, Some, None, decimal, refl, ap, ◌∙◌, sym, subst, arith, append-nil, ⊎_elim, suc, zero}
+use Rattle.std.proofs.Common.{◌≡◌, ℕ, ◌^◌, ◌<◌, Bool, true, false, ◌==◌, if◌then◌else◌, List, [], ◌∷◌, ◌++◌, Some, None, refl, ap, ◌∙◌, sym, subst, arith, append-nil, ⊎_elim, suc, zero}
 use Rattle.std.specs.List.{join_with_byte}
 use Rattle.std.proofs.lemmas.Option.{none-some}
 use Rattle.std.proofs.lemmas.Bool.{eqb-true}
 use Rattle.std.proofs.lemmas.List.Splits.{join_with_byte-slice_split}
-use Rattle.task_machine.specs.declared.task.Seen.{Seen}
-use Rattle.task_machine.specs.declared.task.Seen.TheVariants as seens
-use Rattle.task_machine.specs.declared.calls.Call.{Call}
-use Rattle.task_machine.specs.declared.calls.Reply.{Reply}
+use Rattle.transcript.specs.Types.{Seen, Reply, CallName, SeenName, LineName, Said, First, Holds}
 use Rattle.task_machine.specs.declared.calls.Reply.TheVariants as replies
-use Rattle.text_lines.specs.Steps.{◌>>=◌, ◌or_else◌, only_if, is_empty}
 use Rattle.text_lines.specs.Pieces.{Word, pieces}
 use Rattle.text_lines.specs.Numbers.{number}
 use Rattle.text_lines.specs.Slots.{Value, of_small, of_number, of_reasons, of_index, number_at}
-use Rattle.text_lines.specs.Shapes.{Fits, Front, front, Part, part_at, words, row_words}
-use Rattle.text_lines.proofs.Steps.{some_same, bind_some, only_some, or_some}
+use Rattle.text_lines.specs.Shapes.{Fits, front, part_at, words, row_words}
+use Rattle.text_lines.proofs.Steps.{some_same, bind_some, or_some}
 use Rattle.text_lines.proofs.NumbersAgain.{number_back}
 use Rattle.text_lines.proofs.FrontBack.{front_back}
 use Rattle.text_lines.proofs.Parts.{part_back}
-use Rattle.transcript.specs.declared.lines.Line.TheVariants as line
-use Rattle.transcript.specs.declared.shape.CallName.{CallName}
 use Rattle.transcript.specs.declared.shape.CallName.TheVariants as names
 use Rattle.transcript.specs.declared.shape.Answer.{Answer}
 use Rattle.transcript.specs.declared.shape.Answer.TheVariants as answers
-use Rattle.transcript.specs.declared.shape.SeenName.{SeenName}
 use Rattle.transcript.specs.declared.shape.SeenName.TheVariants as views
-use Rattle.transcript.specs.declared.shape.LineName.{LineName}
 use Rattle.transcript.specs.declared.shape.LineName.TheVariants as kinds
-use Rattle.transcript.specs.declared.shape.Said.{Said}
-use Rattle.transcript.specs.declared.shape.Said.TheVariants.{First, Holds}
 use Rattle.transcript.specs.Tables.{call_row, call_names, answer_of, mask_slots, live, seen_row, seen_names, line_row, line_names}
 use Rattle.transcript.specs.HasText.{HasTextSeen, HasTextCall, HasTextLine, TellsTask, TellsGroup, TellsNothing, FitsReply, FitsCall}
 use Rattle.transcript.specs.Spelling.{call_words, seen_words, fate_index, reply_words, caller_word, end_index, line_words, first_words}
-use Rattle.transcript.specs.Grammar.{call_of, seen_of, line_of, at_end, seen_in, reply_in, caller_in, entry_of, entry_in, plain_in, said_by, said}
+use Rattle.transcript.specs.Grammar.{call_of, seen_of, line_of, at_end, seen_in, reply_in, caller_in, entry_in, plain_in, said_by, said}
 
 -- no word was left
 nothing_left : {A : Type 0} (ws : List Word) (x y : A) → at_end ws x ≡ Some y → (ws ≡ []) × (x ≡ y)

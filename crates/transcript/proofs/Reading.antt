@@ -1,17 +1,14 @@
 -- The rounds so far are counted while a text is read.
-use Rattle.std.proofs.Common.{◌≡◌, ℕ, ◌+◌, ◌≤◌, ◌<◌, Bool, true, false, if◌then◌else◌, Option, Some, None, List, Result, Ok, Err, refl, ap, sym, ◌∙◌, subst, arith}
+use Rattle.std.proofs.Common.{◌≡◌, ℕ, ◌+◌, ◌≤◌, Bool, true, false, if◌then◌else◌, Option, Some, None, List, Result, Ok, Err, refl, ap, sym, ◌∙◌, subst, arith}
 use Rattle.text_lines.specs.Lines.{is_line, at_line, line_taken}
-use Rattle.transcript.specs.declared.lines.Line.{Line}
+use Rattle.transcript.specs.Types.{Said, First, Holds, Progress}
 use Rattle.transcript.specs.declared.lines.Line.TheVariants as line
-use Rattle.transcript.specs.declared.shape.Said.{Said}
-use Rattle.transcript.specs.declared.shape.Said.TheVariants.{First, Holds}
-use Rattle.transcript.specs.declared.shape.Progress.{Progress}
 use Rattle.transcript.specs.declared.faults.FaultKind.{FaultKind}
 use Rattle.transcript.specs.declared.faults.FaultKind.TheVariants as kinds
 use Rattle.transcript.specs.declared.faults.TextError.{TextError}
 use Rattle.transcript.specs.declared.faults.TextError.TheVariants as error
 use Rattle.transcript.specs.Grammar.{said}
-use Rattle.transcript.specs.Judging.{transcripts, lines_read, fault, judged_said, may_stand, past, Gives, Takes}
+use Rattle.transcript.specs.Judging.{transcripts, lines_read, judged_said, may_stand, past, Gives, Takes}
 
 abbrev Answer : Type 0
 Answer = Result Progress (ℕ × FaultKind)
@@ -35,13 +32,7 @@ rounds_taken over n p q text e = go p.ended (is_line over n) (said text) e where
   go false false None e = absurd (cc)
   go false false (Some s) e = good s (may_stand p s) e
 
--- a line that was refused, by the answer of the call
-pub refused_by : (e : TextError) (new : Progress) (v : Answer) → Takes (Err e) new v → Gives (Err e) (lines_read v)
-refused_by error.Memory new v t = tt
-refused_by (error.Refused f) new (Ok p) t = absurd t
-refused_by (error.Refused f) new (Err first) t = ap Err (sym t)
-
--- the same where the whole text is refused for it
+-- a text that is refused for a line, by the answer of the call
 pub refused_whole : (e : TextError) (new : Progress) (v whole : Answer) → ((first : ℕ × FaultKind) → v ≡ Err first → whole ≡ Err first) → Takes (Err e) new v → Gives (Err e) (lines_read whole)
 refused_whole error.Memory new v whole same t = tt
 refused_whole (error.Refused f) new (Ok p) whole same t = absurd t

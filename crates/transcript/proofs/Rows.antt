@@ -4,11 +4,9 @@ use Rattle.std.specs.Prelude.{Some}
 use Rattle.std.specs.List.{list_all}
 use Rattle.text_lines.specs.Names.{plain}
 use Rattle.text_lines.specs.Shapes.{kind_named, is_sound_slot, is_plain_slot}
-use Rattle.transcript.specs.declared.shape.CallName.{CallName}
+use Rattle.transcript.specs.Types.{CallName, SeenName, LineName}
 use Rattle.transcript.specs.declared.shape.CallName.TheVariants.{Wake}
-use Rattle.transcript.specs.declared.shape.SeenName.{SeenName}
 use Rattle.transcript.specs.declared.shape.SeenName.TheVariants.{Gone}
-use Rattle.transcript.specs.declared.shape.LineName.{LineName}
 use Rattle.transcript.specs.declared.shape.LineName.TheVariants.{First}
 use Rattle.transcript.specs.Tables.{call_row, call_names, seen_row, seen_names, line_row, line_names}
 

@@ -1,5 +1,5 @@
 -- The text of lines that go on is read as these lines.
-use Rattle.std.proofs.Common.{◌≡◌, ℕ, ◌+◌, Bool, true, false, List, [], ◌∷◌, ◌++◌, Some, None, Result, Ok, Err, refl, ap, ◌∙◌, sym, subst, append_assoc, append-nil}
+use Rattle.std.proofs.Common.{◌≡◌, ℕ, ◌+◌, Bool, true, false, List, [], ◌∷◌, ◌++◌, Some, None, Ok, refl, ap, ◌∙◌, sym, append_assoc, append-nil}
 use Rattle.std.specs.List.{join_with_byte, flat_map, AllByRecursion}
 use Rattle.std.proofs.lemmas.Bool.{cond-true, cond-false}
 use Rattle.text_lines.specs.Pieces.{pieces}
@@ -8,10 +8,7 @@ use Rattle.text_lines.specs.Shapes.{words, front, part_at}
 use Rattle.text_lines.specs.Lines.{at_line, line_taken, closed, folded}
 use Rattle.text_lines.proofs.Plain.{pieces_spelled}
 use Rattle.text_lines.proofs.LinesRead.{read_taken, read_closed}
-use Rattle.transcript.specs.declared.lines.Line.{Line}
-use Rattle.transcript.specs.declared.shape.Said.{Said}
-use Rattle.transcript.specs.declared.shape.Said.TheVariants.{First, Holds}
-use Rattle.transcript.specs.declared.shape.Progress.{Progress}
+use Rattle.transcript.specs.Types.{Line, Said, First, Holds, Progress}
 use Rattle.transcript.specs.HasText.{HasTextLine}
 use Rattle.transcript.specs.Spelling.{line_text, first_words, head_text, lines_text}
 use Rattle.transcript.specs.Grammar.{said}

@@ -8,17 +8,13 @@ use Rattle.text_lines.specs.Pieces.{pieces}
 use Rattle.text_lines.specs.Added.{spelled}
 use Rattle.text_lines.specs.Lines.{at_line, line_taken, closed, folded}
 use Rattle.text_lines.proofs.LimitLaws.{go_back}
-use Rattle.transcript.specs.declared.lines.Line.{Line}
-use Rattle.transcript.specs.declared.shape.Said.{Said}
-use Rattle.transcript.specs.declared.shape.Said.TheVariants.{First, Holds}
-use Rattle.transcript.specs.declared.shape.Progress.{Progress}
+use Rattle.transcript.specs.Types.{Line, Said, First, Holds, Progress}
 use Rattle.transcript.specs.declared.faults.FaultKind.{FaultKind}
 use Rattle.transcript.specs.declared.faults.FaultKind.TheVariants as kinds
-use Rattle.transcript.specs.declared.faults.TextFault.{TextFault}
 use Rattle.transcript.specs.HasText.{HasTextLine}
 use Rattle.transcript.specs.Spelling.{line_text, line_words, first_words, head_text, lines_text}
 use Rattle.transcript.specs.Grammar.{said}
-use Rattle.transcript.specs.Judging.{transcripts, lines_read, lines_of, judged_said, may_stand, follows, rounds_with, is_end, past, opening, GoesOn}
+use Rattle.transcript.specs.Judging.{transcripts, lines_read, lines_of, judged_said, may_stand, follows, past, opening, GoesOn}
 use Rattle.transcript.specs.Laws.{AreLines}
 use Rattle.transcript.proofs.PhrasesBack.{said_back}
 use Rattle.transcript.proofs.TextAgain.{behind}

@@ -6,10 +6,8 @@ use Rattle.task_machine.specs.declared.task.Stand.TheVariants as stands
 use Rattle.task_machine.specs.declared.task.Seen.TheVariants as seens
 use Rattle.task_machine.specs.declared.calls.Call.TheVariants as calls
 use Rattle.task_machine.specs.declared.calls.Reply.TheVariants as replies
-use Rattle.transcript.specs.declared.lines.Line.{Line}
+use Rattle.transcript.specs.Types.{Line, Call, Reply}
 use Rattle.transcript.specs.declared.lines.Line.TheVariants as line
-use Rattle.task_machine.specs.declared.calls.Call.{Call}
-use Rattle.task_machine.specs.declared.calls.Reply.{Reply}
 use Rattle.text_lines.specs.Numbers.{plain_number, number}
 use Rattle.text_lines.specs.Masks.{hex, hex_word}
 use Rattle.text_lines.specs.Reasons.{reasons, reasons_word}

@@ -1,5 +1,5 @@
 -- An entry, part by part as it is written.
-use Rattle.std.proofs.Common.{◌≡◌, ℕ, List, [], ◌∷◌, ◌++◌, refl, ap, ◌∙◌, append_assoc, decimal}
+use Rattle.std.proofs.Common.{◌≡◌, ℕ, List, [], ◌∷◌, ◌++◌, ap, ◌∙◌, append_assoc, decimal}
 use Rattle.task_machine.specs.declared.calls.Entry.{Entry}
 use Rattle.text_lines.specs.Added.{spaced}
 use Rattle.text_lines.proofs.Spaces.{spelled_cons, spaced_append}

@@ -1,29 +1,22 @@
 -- What the words of a line say: docs/TRANSCRIPT.md, "Shapes".
-use Rattle.std.specs.Prelude.{ℕ, Bool, ◌==◌, if◌then◌else◌, List, [], ◌∷◌, Option, Some, None}
+use Rattle.std.specs.Prelude.{ℕ, ◌==◌, if◌then◌else◌, List, [], ◌∷◌, Option, Some, None}
 use Rattle.sched_base.specs.declared.names.TaskId.{TaskId}
 use Rattle.task_machine.specs.declared.task.Stand.TheVariants as stands
-use Rattle.task_machine.specs.declared.task.Seen.{Seen}
+use Rattle.transcript.specs.Types.{Seen, Call, Reply, CallName, SeenName, LineName, Said, First, Holds}
 use Rattle.task_machine.specs.declared.task.Seen.TheVariants as seens
-use Rattle.task_machine.specs.declared.calls.Call.{Call}
 use Rattle.task_machine.specs.declared.calls.Call.TheVariants as calls
-use Rattle.task_machine.specs.declared.calls.Reply.{Reply}
 use Rattle.task_machine.specs.declared.calls.Reply.TheVariants as replies
 use Rattle.text_lines.specs.Steps.{◌>>=◌, ◌or_else◌, only_if, is_empty}
 use Rattle.text_lines.specs.Pieces.{Word, pieces}
 use Rattle.text_lines.specs.Numbers.{number}
 use Rattle.text_lines.specs.Slots.{Value, small_at, number_at, reasons_at, index_at}
-use Rattle.text_lines.specs.Shapes.{Part, front, part_at}
+use Rattle.text_lines.specs.Shapes.{front, part_at}
 use Rattle.transcript.specs.declared.lines.Line.TheVariants as lines
-use Rattle.transcript.specs.declared.shape.CallName.{CallName}
 use Rattle.transcript.specs.declared.shape.CallName.TheVariants as names
 use Rattle.transcript.specs.declared.shape.Answer.{Answer}
 use Rattle.transcript.specs.declared.shape.Answer.TheVariants as answers
-use Rattle.transcript.specs.declared.shape.SeenName.{SeenName}
 use Rattle.transcript.specs.declared.shape.SeenName.TheVariants as views
-use Rattle.transcript.specs.declared.shape.LineName.{LineName}
 use Rattle.transcript.specs.declared.shape.LineName.TheVariants as kinds
-use Rattle.transcript.specs.declared.shape.Said.{Said}
-use Rattle.transcript.specs.declared.shape.Said.TheVariants.{First, Holds}
 use Rattle.transcript.specs.Tables.{call_row, call_names, answer_of, mask_slots, seen_row, seen_names, line_row, line_names}
 
 -- the task whose number is the first value

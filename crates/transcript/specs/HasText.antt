@@ -1,13 +1,9 @@
 -- Which entries and lines have a text (docs/TRANSCRIPT.md, "What has a text").
 use Rattle.std.specs.Prelude.{◌<◌, ◌^◌}
-use Rattle.task_machine.specs.declared.task.Seen.{Seen}
+use Rattle.transcript.specs.Types.{Seen, Call, Reply, Entry, Line}
 use Rattle.task_machine.specs.declared.task.Seen.TheVariants as seen
-use Rattle.task_machine.specs.declared.calls.Call.{Call}
 use Rattle.task_machine.specs.declared.calls.Call.TheVariants as call
-use Rattle.task_machine.specs.declared.calls.Reply.{Reply}
 use Rattle.task_machine.specs.declared.calls.Reply.TheVariants as reply
-use Rattle.task_machine.specs.declared.calls.Entry.{Entry}
-use Rattle.transcript.specs.declared.lines.Line.{Line}
 use Rattle.transcript.specs.declared.lines.Line.TheVariants as line
 
 -- the takes that a call saw are below 2 ^ 48

@@ -1,11 +1,8 @@
 -- Which text is a transcript, and else its first bad line: docs/TRANSCRIPT.md, "Faults".
 use Rattle.std.specs.Prelude.{◌≡◌, ℕ, ◌+◌, Bool, true, false, not, ◌&&◌, ◌==◌, if◌then◌else◌, nat_lt, List, [], ◌∷◌, ◌++◌, Option, Some, None, Result, Ok, Err}
 use Rattle.text_lines.specs.Lines.{Format, read_within, read_whole}
-use Rattle.transcript.specs.declared.lines.Line.{Line}
+use Rattle.transcript.specs.Types.{Line, Said, First, Holds, Progress}
 use Rattle.transcript.specs.declared.lines.Line.TheVariants as line
-use Rattle.transcript.specs.declared.shape.Said.{Said}
-use Rattle.transcript.specs.declared.shape.Said.TheVariants.{First, Holds}
-use Rattle.transcript.specs.declared.shape.Progress.{Progress}
 use Rattle.transcript.specs.declared.faults.FaultKind.{FaultKind}
 use Rattle.transcript.specs.declared.faults.FaultKind.TheVariants as kinds
 use Rattle.transcript.specs.declared.faults.TextFault.{TextFault}

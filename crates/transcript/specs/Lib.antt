@@ -1,3 +1,4 @@
+pub mod Types
 pub mod Tables
 pub mod Spelling
 pub mod HasText

@@ -1,24 +1,17 @@
 -- The words of each line, and the text that they make: docs/TRANSCRIPT.md, "Words".
 use Rattle.std.specs.Prelude.{ℕ, Bool, true, false, List, [], ◌∷◌, ◌++◌, decimal}
 use Rattle.std.specs.List.{flat_map}
-use Rattle.task_machine.specs.declared.task.Stand.{Stand}
+use Rattle.transcript.specs.Types.{Stand, Seen, Call, Reply, Entry, Line, CallName, SeenName}
 use Rattle.task_machine.specs.declared.task.Stand.TheVariants as stands
-use Rattle.task_machine.specs.declared.task.Seen.{Seen}
 use Rattle.task_machine.specs.declared.task.Seen.TheVariants as seens
-use Rattle.task_machine.specs.declared.calls.Call.{Call}
 use Rattle.task_machine.specs.declared.calls.Call.TheVariants as calls
-use Rattle.task_machine.specs.declared.calls.Reply.{Reply}
 use Rattle.task_machine.specs.declared.calls.Reply.TheVariants as replies
-use Rattle.task_machine.specs.declared.calls.Entry.{Entry}
 use Rattle.text_lines.specs.Pieces.{Word}
 use Rattle.text_lines.specs.Added.{spelled}
 use Rattle.text_lines.specs.Slots.{Value, of_small, of_number, of_reasons, of_index}
 use Rattle.text_lines.specs.Shapes.{words, row_words}
-use Rattle.transcript.specs.declared.lines.Line.{Line}
 use Rattle.transcript.specs.declared.lines.Line.TheVariants as line
-use Rattle.transcript.specs.declared.shape.CallName.{CallName}
 use Rattle.transcript.specs.declared.shape.CallName.TheVariants as names
-use Rattle.transcript.specs.declared.shape.SeenName.{SeenName}
 use Rattle.transcript.specs.declared.shape.SeenName.TheVariants as views
 use Rattle.transcript.specs.declared.shape.LineName.TheVariants as kinds
 use Rattle.transcript.specs.Tables.{call_row, mask_slots, seen_row, line_row}

@@ -1,13 +1,11 @@
 -- The tables of a transcript's lines: docs/TRANSCRIPT.md, "Words".
 use Rattle.std.specs.Prelude.{List, [], ◌∷◌, codes}
 use Rattle.text_lines.specs.Slots.{Slot, Row, word, small, large, mask, reasons, pending, choice}
-use Rattle.transcript.specs.declared.shape.CallName.{CallName}
+use Rattle.transcript.specs.Types.{CallName, SeenName, LineName}
 use Rattle.transcript.specs.declared.shape.CallName.TheVariants as calls
 use Rattle.transcript.specs.declared.shape.Answer.{Answer}
 use Rattle.transcript.specs.declared.shape.Answer.TheVariants.{Seen, Group, Nothing}
-use Rattle.transcript.specs.declared.shape.SeenName.{SeenName}
 use Rattle.transcript.specs.declared.shape.SeenName.TheVariants as seens
-use Rattle.transcript.specs.declared.shape.LineName.{LineName}
 use Rattle.transcript.specs.declared.shape.LineName.TheVariants as lines
 
 -- a call's name, and the slots behind it

@@ -1,5 +1,5 @@
 -- Each line that is taken moves from what is left to what was read.
-use Rattle.std.proofs.Common.{◌∙◌, ◌+◌, refl, ap, sym, subst, arith, ◌∷◌, Err}
+use Rattle.std.proofs.Common.{◌∙◌, ◌+◌, refl, ap, sym, subst, arith, ◌∷◌}
 use Rattle.std.proofs.lemmas.Result.{err_from_is_err_and}
 use Rattle.text_lines.specs.Pieces.{pieces, pieces_left}
 use Rattle.text_lines.specs.Lines.{line_taken}
