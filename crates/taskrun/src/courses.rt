@@ -18,7 +18,9 @@ use step_tables::Script;
 use task_machine::Entry;
 use thread_loop::{Crew, Merger, Plant};
 
-/// From how many calls on a round is merged on a thread of its own: to start one takes as long as some hundred calls.
+/// From how many calls on a round of several workers is merged on a thread of its own: to start one takes as long as some
+/// hundred calls. A run of one worker starts no thread for this, since where a processor has to wake up first, it takes
+/// longer than such a round.
 const MANY: usize = 256;
 
 /// Notes the rounds of a run, one after another.
@@ -121,7 +123,7 @@ impl Course {
 }
 
 /// Makes the next round, and merges and notes the last one, which was made at this tick: side by side, where that one has
-/// many calls.
+/// many calls of several workers.
 fn go_on<R: Threads + Sync, C: Crew, G: Gate + Sync, S: Scribe + Send>(
     rt: &R,
     alloc: Global,
@@ -142,7 +144,7 @@ fn go_on<R: Threads + Sync, C: Crew, G: Gate + Sync, S: Scribe + Send>(
     ensures plays { OnOk result (Plays script.now (round + 1) plant.old plant.new (C.told crew.old) (C.told crew.new)) }
     ensures noted { OnOk result (HasNoted (S.notes round) tick merger.old merger.new scribe.old scribe.new) }
 {
-    if merger.count() < MANY {
+    if script.workers() == 1 || merger.count() < MANY {
         note_merged(merger, scribe, round, tick)?;
         return plant.play(rt, alloc, script, crew, round + 1, gate);
     }
