@@ -5,7 +5,7 @@ use Rattle.std.proofs.lemmas.List.{same_lists, get_or_default, get_or_past}
 use mathlib.Core.Option.{some, some-injective, some-ne-none}
 use lib.ListN.{get_elem?}
 use Rattle.atomic_table.specs.Table as table
-use Rattle.atomic_table.proofs.Lists.{at_index, at_map}
+use Rattle.atomic_table.proofs.Lists.{at_map}
 use Rattle.sched_base.specs.declared.names.CallerId.{CallerId}
 use Rattle.task_machine.specs.declared.task.Place.{Place}
 use Rattle.task_machine.specs.declared.task.Place.TheVariants as places
@@ -23,6 +23,7 @@ use Rattle.wake_board.specs.Start.{Start, start_of, no_holder, task_by, tasks_by
 use Rattle.wake_board.specs.Between.{PlacedBy, StandBetween, FewTakes}
 use Rattle.wake_board.specs.Rule.{IsHomed, IsLogged, IsKept, first_view}
 use Rattle.wake_board.specs.Gathered.{IsOpening}
+use Rattle.wake_board.specs.Lent.{AreLent}
 use Rattle.wake_board.proofs.Tables.{at_single}
 
 -- a task with these parts
@@ -112,8 +113,8 @@ opens_homed o r i =
     ]
 
 -- a board that is opened keeps the rule
-pub opens : (o : Opening) (row : List ℕ) (bodies : List Body) → row ≡ o.words.value.row → bodies ≡ o.words.value.bodies → length row ≡ width o.words.value.workers o.words.value.tasks → length bodies ≡ o.words.value.tasks → StandBetween o.words.value o.homes.items o.holders.items o.nexts.value (start_of o).state → FewTakes o.homes.items (start_of o).state → IsKept o (table.opening row bodies (first_view o))
-opens o row bodies is_row is_bodies wide deep r few =
+pub opens : (o : Opening) (row : List ℕ) (bodies : List Body) → row ≡ o.words.value.row → AreLent o.words.value o.homes.items bodies → length row ≡ width o.words.value.workers o.words.value.tasks → StandBetween o.words.value o.homes.items o.holders.items o.nexts.value (start_of o).state → FewTakes o.homes.items (start_of o).state → IsKept o (table.opening row bodies (first_view o))
+opens o row bodies is_row lent wide r few =
     let ws : WordRow = o.words.value in
     let count : length (start_of o).state.tasks ≡ ws.tasks = r.count in
     let n : ℕ = length (start_of o).state.tasks in
@@ -148,10 +149,8 @@ opens o row bodies is_row is_bodies wide deep r few =
             let here = at_single (first_view o) v p at in
             absurd (some-ne-none x (sym (subst (λ (z : View). get_elem? z.outs i ≡ some x) (sym here.1) out)));
         bodies = λ i l shared lives.
-            let body : Body = get_or bodies i first_body in
-            let there : get_elem? bodies i ≡ some body = at_index bodies i body (omega arith) (get_or_default bodies i first_body body (omega arith)) in
-            let fits = r.bodies i (omega arith) shared lives in
-            inl (body, at_map some bodies i body there, subst (λ (x : List Body). Rattle.wake_board.specs.Between.BodyFits o.nexts.value i (get_or x i first_body) (task_at (start_of o).state i).takes) (sym is_bodies) fits);
+            let body : Body = get_or ws.bodies i first_body in
+            inl (body, at_map some bodies i body (lent.shared i (omega arith) shared), r.bodies i (omega arith) shared lives);
       };
     }
 

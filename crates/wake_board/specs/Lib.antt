@@ -1,4 +1,5 @@
 pub mod Rows
+pub mod Lent
 pub mod Outs
 pub mod Between
 pub mod Start

@@ -6,7 +6,7 @@ use Rattle.wake_board.specs.Start.{Start}
 
 pub record IsSized (board : TableId) (o : Start) (ws : WordRow) : Type 0 where
   pub words : board.words ≡ width ws.workers ws.tasks
-  pub slots : board.slots ≡ ws.tasks
+  pub slots : board.slots ≤ ws.tasks
   pub workers : o.state.workers ≡ ws.workers
   pub tasks : length o.state.tasks ≡ ws.tasks
   pub few_tasks : ws.tasks ≤ 65536

@@ -1,6 +1,6 @@
 //! How a board is made of words, and ends in words.
 
-ghost use Rattle.std.specs.Prelude.{◌≡◌, ℕ, suc, ◌<◌, [], length, slice_index_or, IfOk, Option, Some, None, IsSome};
+ghost use Rattle.std.specs.Prelude.{◌≡◌, ℕ, suc, ◌<◌, ◌≤◌, [], length, slice_index_or, IfOk, Option, Some, None, IsSome};
 ghost use Rattle.wake_board.specs.Seen.{Held};
 ghost use Rattle.wake_board.specs.Start.{start_of};
 ghost use Rattle.wake_board.specs.Between.{StandBetween, FewTakes};
@@ -54,9 +54,9 @@ pub(crate) fn lay(
     requires words { opening.now.words.value ≡ words.now }
     requires stands { StandBetween words.now opening.now.homes.items opening.now.holders.items opening.now.nexts.value (start_of opening.now).state }
     requires few { FewTakes opening.now.homes.items (start_of opening.now).state }
-    ensures { IfOk result (λ t. (t.0.shared.table_id.words ≡ length words.now.row) × (t.0.shared.table_id.slots ≡ length words.now.bodies) × (t.0.shared.key ≡ opening.now) × (t.1.table_id ≡ t.0.shared.table_id) × (t.1.me ≡ (first_view opening.now, []))) }
+    ensures { IfOk result (λ t. (t.0.shared.table_id.words ≡ length words.now.row) × (t.0.shared.table_id.slots ≤ words.now.tasks) × (t.0.shared.key ≡ opening.now) × (t.1.table_id ≡ t.0.shared.table_id) × (t.1.me ≡ (first_view opening.now, []))) }
 {
-    let bodies = words.copied_bodies()?;
+    let bodies = words.lent_bodies(alloc, opening.homes.as_slice())?;
     match Table::new(alloc, words.row.as_slice(), bodies, opening) {
         Ok(laid) => Ok(laid),
         Err(Refused { slots: _ }) => Err(AllocError),

@@ -3,6 +3,7 @@
 ghost use Rattle.std.specs.Prelude.{◌≡◌, ℕ, ◌*◌, ◌/◌, ◌%◌, ◌<◌, ◌≤◌, false, IfOk, length, slice_index_or};
 ghost use Rattle.std.specs.Mem.Slots.{slots_items, slots_filled, slots_len, IsFull};
 ghost use Rattle.std.specs.Int.{bit_at};
+ghost use Rattle.wake_board.specs.Lent.{AreLent, AreBack};
 ghost use Rattle.wake_board.specs.Rows.{blank_row, task_word, box_word, box_at, width, row_seated, row_dealt, first_body};
 
 use crate::body::Body;
@@ -71,8 +72,20 @@ impl Words {
         })
     }
 
+    /// The bodies once more, for the places of a table: one for each task, or none where no task is shared, since only the
+    /// body of a shared task goes out.
+    pub(crate) fn lent_bodies(&self, alloc: Global, homes: &[u32]) -> Result<Vec<Body>, AllocError>
+        ensures { IfOk result (λ v. AreLent self.now homes.now v.items) }
+    {
+        if !homes.contains(&self.workers) {
+            return Ok(Vec::new(alloc));
+        }
+        let bodies = self.copied_bodies()?;
+        Ok(bodies)
+    }
+
     /// The bodies of all tasks once more.
-    pub(crate) fn copied_bodies(&self) -> Result<Vec<Body>, AllocError>
+    fn copied_bodies(&self) -> Result<Vec<Body>, AllocError>
         ensures { IfOk result (λ v. v.items ≡ self.now.bodies) }
     {
         self.bodies.clone()
@@ -88,12 +101,13 @@ impl Words {
         box_index(self.workers, self.tasks, boxno, group as usize)
     }
 
-    /// The words and bodies of a table that is closed, in the memory of these.
+    /// The words of a table that is closed, in the memory of these, and the bodies that it has.
     pub(crate) fn filled(self, closed: Closed<Body, Global>) -> Words
         requires full { IsFull closed.words × IsFull closed.slots }
         requires words { slots_len closed.words ≡ width self.workers self.tasks }
-        requires slots { slots_len closed.slots ≡ self.tasks }
-        ensures { result ≡ record self { row = slots_items closed.words; bodies = slots_items closed.slots } }
+        requires slots { slots_len closed.slots ≤ self.tasks }
+        ensures words { result ≡ record self { row = slots_items closed.words; bodies = result.bodies } }
+        ensures bodies { AreBack (slots_items closed.slots) result.bodies }
     {
         let mut words = self;
         let mut closed = closed;
@@ -203,15 +217,16 @@ fn copy_row(closed: &Closed<Body, Global>, row: &mut [u64])
     }
 }
 
-/// Takes all bodies out of a closed table.
+/// Takes all bodies out of a closed table, each to the place of its task.
 fn take_bodies(closed: &mut Closed<Body, Global>, bodies: &mut [Body])
     requires full { IsFull closed.old.slots }
-    requires sized { slots_len closed.old.slots ≡ length bodies.old }
-    ensures bodies { bodies.new ≡ slots_items closed.old.slots }
+    requires sized { slots_len closed.old.slots ≤ length bodies.old }
+    ensures bodies { AreBack (slots_items closed.old.slots) bodies.new }
+    ensures count { length bodies.new ≡ length bodies.old }
     ensures empty { (k : ℕ) → k < slots_len closed.new.slots → slice_index_or (slots_filled closed.new.slots) k false ≡ false }
     ensures words { closed.new.words ≡ closed.old.words }
 {
-    for i in 0..bodies.len() {
+    for i in 0..closed.slot_count() {
         bodies[i] = closed.take(i);
     }
 }

@@ -28,10 +28,9 @@ invariant_of-result c =
     let sizes = c.words.invariant in
     let view = c.words.view_is in
     let wide : length c.args.words.row ≡ width c.args.words.workers c.args.words.tasks = subst (λ (w : WordRow). length w.row ≡ width w.workers w.tasks) view sizes.3 in
-    let deep : length c.args.words.bodies ≡ c.args.words.tasks = subst (λ (w : WordRow). length w.bodies ≡ w.tasks) view sizes.4 in
     record {
       words = c.in_ok-table.ensures.0 ∙ wide;
-      slots = c.in_ok-table.ensures.1 ∙ deep;
+      slots = c.in_ok-table.ensures.1;
       workers = ap (λ (w : WordRow). w.workers) words;
       tasks = length-tasks_by key.words.value key.homes.items key.holders.items 0 key.words.value.tasks ∙ ap (λ (w : WordRow). w.tasks) words;
       few_tasks = (let t = ap (λ (w : WordRow). w.tasks) view in let s = sizes.0 in omega arith);
