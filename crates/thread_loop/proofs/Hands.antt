@@ -38,50 +38,59 @@ holds-same k e homes old new stays same = rw same (record {
   count = refl;
 })
 
--- a group of which no bit was looked at
-pub grouped-first : (k g mask : ℕ) (homes old : List ℕ) → Grouped k g mask 0 homes old old
+-- the tasks of a mask's bits that are done are held by caller k, where they are its own; the rest is not done
+pub record GroupedBut (k g mask rest : ℕ) (homes old new : List ℕ) : Type 0 where
+  pub among : (b : ℕ) → b < 64 → bit_at rest b ≡ 1 → bit_at mask b ≡ 1
+  pub taken : (b : ℕ) → b < 64 → bit_at mask b ≡ 1 → bit_at rest b ≢ 1 → 64 * g + b < length old → get_or homes (64 * g + b) 0 ≡ k → get_or new (64 * g + b) 0 ≡ k
+  pub left : (b : ℕ) → b < 64 → bit_at mask b ≢ 1 → get_or new (64 * g + b) 0 ≡ get_or old (64 * g + b) 0
+  pub others : (i : ℕ) → ((b : ℕ) → b < 64 → i ≢ 64 * g + b) → get_or new i 0 ≡ get_or old i 0
+  pub foreign : (i : ℕ) → get_or homes i 0 ≢ k → get_or new i 0 ≡ get_or old i 0
+  pub count : length new ≡ length old
+
+-- at first nothing is done
+pub grouped-first : (k g mask : ℕ) (homes old : List ℕ) → GroupedBut k g mask mask homes old old
 grouped-first k g mask homes old = record {
-  taken = λ b lt. absurd (omega arith);
-  left = λ b lt. absurd (omega arith);
+  among = λ b lt one. one;
+  taken = λ b lt one not_one. absurd (not_one one);
+  left = λ b lt none. refl;
   others = λ i ne. refl;
   foreign = λ i ne. refl;
   count = refl;
 }
 
--- one bit more, which is clear
-pub grouped-clear : (k g mask n : ℕ) (homes old now : List ℕ) → bit_at mask n ≢ 1 → Grouped k g mask n homes old now → Grouped k g mask (n + 1) homes old now
-grouped-clear k g mask n homes old now clear h = record {
-  taken = λ b lt one exists home. elim (cases_eq b n) [
-    | inl same ↦ absurd (clear (ap (bit_at mask) (sym same) ∙ one))
-    | inr ne ↦ h.taken b (omega arith) one exists home
-  ];
-  left = λ b lt none. elim (cases_eq b n) [
-    | inl same ↦ h.others (64 * g + b) (λ c less e. omega arith)
-    | inr ne ↦ h.left b (omega arith) none
-  ];
-  others = λ i ne. h.others i (λ b lt. ne b (omega arith));
+-- at the end all is done
+pub grouped-all : (k g mask : ℕ) (homes old new : List ℕ) → GroupedBut k g mask 0 homes old new → Grouped k g mask 64 homes old new
+grouped-all k g mask homes old new h = record {
+  taken = λ b lt one. h.taken b lt one (λ some. let z = bit_at-zero b in omega arith);
+  left = h.left;
+  others = h.others;
   foreign = h.foreign;
   count = h.count;
 }
 
--- one bit more, which is set
-pub grouped-set : (k g mask n task : ℕ) (homes old now new : List ℕ) → bit_at mask n ≡ 1 → task ≡ 64 * g + n → Gives k task k homes now new → Grouped k g mask n homes old now → Grouped k g mask (n + 1) homes old new
-grouped-set k g mask n task homes old now new set at gives h = record {
-  taken = λ b lt one exists home. elim (cases_eq b n) [
-    | inl same ↦ (let here : 64 * g + b ≡ task = omega arith in rw here (gives.given (subst (λ (x : ℕ). x < length now) here (omega (arith, h.count))) (ap (λ x. get_or homes x 0) (sym here) ∙ home)))
-    | inr ne ↦ (let far : 64 * g + b ≢ task = λ e. omega arith in gives.others (64 * g + b) far ∙ h.taken b (omega arith) one exists home)
-  ];
-  left = λ b lt none. elim (cases_eq b n) [
-    | inl same ↦ absurd (none (ap (bit_at mask) same ∙ set))
-    | inr ne ↦ (let far : 64 * g + b ≢ task = λ e. omega arith in gives.others (64 * g + b) far ∙ h.left b (omega arith) none)
-  ];
-  others = λ i ne. (let far : i ≢ task = λ e. ne n (omega arith) (e ∙ at) in gives.others i far ∙ h.others i (λ b lt. ne b (omega arith)));
-  foreign = λ i ne. elim (cases_eq i task) [
-    | inl same ↦ rw same (gives.foreign (λ home. ne (ap (λ x. get_or homes x 0) same ∙ home)) ∙ h.foreign task (λ home. ne (ap (λ x. get_or homes x 0) same ∙ home)))
-    | inr far ↦ gives.others i far ∙ h.foreign i ne
-  ];
-  count = gives.count ∙ h.count;
-}
+-- the task of one bit more
+module _ (k g mask rest less n : ℕ) (set : bit_at rest n ≡ 1) (within : n < 64) (same_bit : bit_at less n ≡ 0) (other_bits : (b : ℕ) → b < 64 → b ≢ n → bit_at less b ≡ bit_at rest b) where
+  pub grouped-next : (task : ℕ) (homes old now new : List ℕ) → task ≡ 64 * g + n → Gives k task k homes now new → GroupedBut k g mask rest homes old now → GroupedBut k g mask less homes old new
+  grouped-next task homes old now new at gives h = record {
+    among = λ b lt one. elim (cases_eq b n) [
+      | inl same ↦ (let clear : bit_at less b ≡ 0 = ap (bit_at less) same ∙ same_bit in absurd (omega arith))
+      | inr ne ↦ h.among b lt (sym (other_bits b lt ne) ∙ one)
+    ];
+    taken = λ b lt one done exists home. elim (cases_eq b n) [
+      | inl same ↦ (let here : 64 * g + b ≡ task = omega arith in rw here (gives.given (subst (λ (x : ℕ). x < length now) here (omega (arith, h.count))) (ap (λ x. get_or homes x 0) (sym here) ∙ home)))
+      | inr ne ↦ (let far : 64 * g + b ≢ task = λ e. omega arith in gives.others (64 * g + b) far ∙ h.taken b lt one (λ still. done (other_bits b lt ne ∙ still)) exists home)
+    ];
+    left = λ b lt none. elim (cases_eq b n) [
+      | inl same ↦ absurd (none (h.among b lt (ap (bit_at rest) same ∙ set)))
+      | inr ne ↦ (let far : 64 * g + b ≢ task = λ e. omega arith in gives.others (64 * g + b) far ∙ h.left b lt none)
+    ];
+    others = λ i ne. (let far : i ≢ task = λ e. ne n within (e ∙ at) in gives.others i far ∙ h.others i ne);
+    foreign = λ i ne. elim (cases_eq i task) [
+      | inl same ↦ rw same (gives.foreign (λ home. ne (ap (λ x. get_or homes x 0) same ∙ home)) ∙ h.foreign task (λ home. ne (ap (λ x. get_or homes x 0) same ∙ home)))
+      | inr far ↦ gives.others i far ∙ h.foreign i ne
+    ];
+    count = gives.count ∙ h.count;
+  }
 
 -- what a caller has after some entries goes on from what it has after the first of them
 pub record Follows (k : ℕ) (entries : List Entry) (n : ℕ) (homes old now : List ℕ) : Type 0 where

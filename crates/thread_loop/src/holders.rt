@@ -119,13 +119,17 @@ fn hold_group(holders: &mut [u32], homes: &[u32], who: u32, group: u32, mask: u6
     requires sized { length homes.now ≡ length holders.old }
     ensures { Grouped who group mask 64 homes.now holders.old holders.new }
 {
-    if mask == 0 {
-        return;
-    }
-    for bit in 0..GROUP {
-        if (mask >> bit) & 1 == 1 {
-            give(holders, homes, who, GROUP * group as usize + bit, who);
-        }
+    let mut rest = mask;
+    while rest != 0 {
+        let bit = rest.trailing_zeros();
+        give(
+            holders,
+            homes,
+            who,
+            GROUP * group as usize + bit as usize,
+            who,
+        );
+        rest &= !(1 << bit);
     }
 }
 
