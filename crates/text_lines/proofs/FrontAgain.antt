@@ -1,13 +1,13 @@
 -- What is written of a shape is read as the same values.
-use Rattle.std.proofs.Common.{◌≡◌, true, List, [], ◌∷◌, ◌++◌, refl, ap, sym, ◌∙◌, arith, append-nil}
+use Rattle.std.proofs.Common.{◌≡◌, true, List, [], ◌∷◌, ◌++◌, refl, ap, ◌∙◌, arith}
 use Rattle.std.specs.Prelude.{Some, option_map}
 use Rattle.std.specs.List.{list_all}
 use Rattle.std.proofs.lemmas.Bool.{and_parts}
-use Rattle.text_lines.specs.Steps.{◌>>=◌, only_if, is_empty}
+use Rattle.text_lines.specs.Steps.{only_if}
 use Rattle.text_lines.specs.Pieces.{Word}
 use Rattle.text_lines.specs.Slots.{Slot, Value, of_small, of_number, of_reasons, of_index, of_text}
 use Rattle.text_lines.specs.Slots as slot
-use Rattle.text_lines.specs.Shapes.{taken, alone, led_by, front, whole, spelled_in, behind, words, FitsIn, Fits, is_sound_slot}
+use Rattle.text_lines.specs.Shapes.{taken, alone, led_by, front, spelled_in, behind, words, FitsIn, Fits, is_sound_slot}
 use Rattle.text_lines.proofs.NumbersAgain.{number_again}
 use Rattle.text_lines.proofs.HexAgain.{hex_again}
 use Rattle.text_lines.proofs.ReasonsAgain.{reasons_again, pending_again}
@@ -45,9 +45,3 @@ front_again [] (v ∷ vs) ws sound fits = absurd fits
 front_again (s ∷ ss) vs ws sound fits =
     let p = and_parts _ _ sound in
     ap (λ o. led_by o (front ss (words ss (behind s vs) ++ ws))) (taken_again s vs p.0 fits.0) ∙ ap (led_by (Some (firsts s vs))) (front_again ss (behind s vs) ws p.1 fits.1) ∙ ap (λ x. Some (x, ws)) (firsts_behind s vs)
-
--- the same with no word behind it
-pub whole_again : (ss : List Slot) (vs : List Value) → list_all is_sound_slot ss ≡ true → Fits ss vs → whole ss (words ss vs) ≡ Some vs
-unfolding whole
-whole_again ss vs sound fits =
-    ap (λ o. o >>= (λ r. only_if (is_empty r.1) r.0)) (ap (front ss) (sym (append-nil (words ss vs))) ∙ front_again ss vs [] sound fits)

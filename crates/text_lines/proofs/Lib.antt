@@ -20,5 +20,6 @@ pub mod FrontApart
 pub mod Parts
 pub mod PartsRead
 pub mod LinesRead
+pub mod LinesTaken
 pub mod LimitLaws
 pub mod LongTexts

@@ -1,8 +1,7 @@
 -- Lists seen through a function.
-use Rattle.std.proofs.Common.{◌≡◌, ℕ, suc, zero, ◌+◌, Bool, cond, get_or, ◌≤◌, ◌<◌, List, [], ◌∷◌, map, length, drop, refl, ap, arith}
+use Rattle.std.proofs.Common.{◌≡◌, ℕ, suc, zero, ◌+◌, Bool, cond, ◌≤◌, List, [], ◌∷◌, map, length, refl, ap, arith}
 use Rattle.std.specs.Prelude.{Some, slice_get, option_map, slice_index_or}
 use Rattle.std.specs.List.{position_from}
-use Rattle.std.proofs.lemmas.List.{drop_more, drop_all}
 use Rattle.std.proofs.lemmas.Option.{slice_get-map, none-some}
 
 pub get_mapped : {A B : Type 0} (f : A → B) (xs : List A) (i : ℕ) → slice_get (map f xs) i ≡ option_map f (slice_get xs i)
@@ -21,10 +20,3 @@ index_missing f (y ∷ ys) (suc i) h = index_missing f ys i (omega arith)
 pub position_mapped : {A B : Type 0} (p : B → Bool) (f : A → B) (k : ℕ) (xs : List A) → position_from p k (map f xs) ≡ position_from (λ x. p (f x)) k xs
 position_mapped p f k [] = refl
 position_mapped p f k (x ∷ xs) = ap (cond (p (f x)) (Some k)) (position_mapped p f (k + 1) xs)
-
--- what is left of a list from a place on
-pub drop_there : {A : Type 0} (xs : List A) (i : ℕ) (x : A) → i < length xs → drop i xs ≡ get_or xs i x ∷ drop (i + 1) xs
-drop_there xs i x below = drop_more xs i x below
-
-pub drop_none : {A : Type 0} (xs : List A) (i : ℕ) → length xs ≤ i → drop i xs ≡ []
-drop_none xs i past = drop_all i xs past

@@ -9,7 +9,7 @@ use Rattle.std.proofs.lemmas.List.Elements.{All-nil, All-push}
 use Rattle.text_lines.specs.Pieces.{pieces}
 use Rattle.text_lines.specs.Lines.{Format, at_line, line_taken, closed, go_on, folded, line_over, read_within}
 use Rattle.text_lines.proofs.Cuts.{pieces_some}
-use Rattle.text_lines.proofs.LimitLaws.{go_back}
+use Rattle.text_lines.proofs.LinesTaken.{go_back}
 use Rattle.text_lines.proofs.LinesRead.{read_line}
 
 -- no line feed

@@ -1,10 +1,10 @@
 -- Parts of a line by the tables of their kinds.
-use Rattle.std.proofs.Common.{◌≡◌, true, List, [], ◌∷◌, ◌++◌, refl, ap, sym, ◌∙◌, subst, append-nil}
+use Rattle.std.proofs.Common.{◌≡◌, Bool, true, false, cond, List, [], ◌∷◌, ◌++◌, refl, ap, sym, ◌∙◌, subst, append-nil}
 use Rattle.std.specs.Prelude.{Option, Some, None, bytes_eq}
 use Rattle.std.specs.List.{list_all}
 use Rattle.std.specs.Cmp.Lexicographic.{same_text}
 use Rattle.std.proofs.lemmas.Option.{none-some}
-use Rattle.text_lines.specs.Steps.{◌>>=◌}
+use Rattle.text_lines.specs.Steps.{◌>>=◌, ◌or_else◌}
 use Rattle.text_lines.specs.Pieces.{Word}
 use Rattle.text_lines.specs.Slots.{Value, Row}
 use Rattle.text_lines.specs.Shapes.{Front, front, words, Fits, is_sound_slot, kind_named, Part, part_of, of_kind, part_at, row_words}
@@ -42,3 +42,11 @@ part_back row kinds (w ∷ ws) p e =
     subst (PartBack row (w ∷ ws)) q.2 (cons (sym named) back.0, back.1) where
       cons : {a b : Word} {xs ys : List Word} → a ≡ b → xs ≡ ys → (a ∷ xs) ≡ (b ∷ ys)
       cons p q = cc
+
+-- a name is looked for among some kinds, then among others
+pub named_then : {K : Type 0} (row : K → Row) (xs ys : List K) (w : Word) → kind_named row (xs ++ ys) w ≡ (kind_named row xs w or_else kind_named row ys w)
+named_then row [] ys w = refl
+named_then row (x ∷ xs) ys w = go (bytes_eq (row x).name w) (named_then row xs ys w) where
+  go : (b : Bool) → kind_named row (xs ++ ys) w ≡ (kind_named row xs w or_else kind_named row ys w) → cond b (Some x) (kind_named row (xs ++ ys) w) ≡ (cond b (Some x) (kind_named row xs w) or_else kind_named row ys w)
+  go true more = refl
+  go false more = more

@@ -1,10 +1,10 @@
 -- What is read of a line is written as the same words.
-use Rattle.std.proofs.Common.{◌≡◌, ℕ, ◌^◌, ◌<◌, Bool, true, false, ◌==◌, if◌then◌else◌, List, [], ◌∷◌, ◌++◌, Some, None, refl, ap, ◌∙◌, sym, subst, arith, append-nil, ⊎_elim, suc, zero}
+use Rattle.std.proofs.Common.{◌≡◌, ℕ, ◌^◌, ◌<◌, Bool, true, false, ◌==◌, if◌then◌else◌, List, [], ◌∷◌, ◌++◌, Option, Some, None, refl, ap, ◌∙◌, sym, subst, arith, append-nil, ⊎_elim, suc, zero}
 use Rattle.std.specs.List.{join_with_byte}
 use Rattle.std.proofs.lemmas.Option.{none-some}
 use Rattle.std.proofs.lemmas.Bool.{eqb-true}
 use Rattle.std.proofs.lemmas.List.Splits.{join_with_byte-slice_split}
-use Rattle.transcript.specs.Types.{Seen, Reply, CallName, SeenName, LineName, Said, First, Holds}
+use Rattle.transcript.specs.Types.{Stand, Seen, Call, Reply, Name, Said, First, Holds}
 use Rattle.task_machine.specs.declared.calls.Reply.TheVariants as replies
 use Rattle.text_lines.specs.Pieces.{Word, pieces}
 use Rattle.text_lines.specs.Numbers.{number}
@@ -14,15 +14,14 @@ use Rattle.text_lines.proofs.Steps.{some_same, bind_some, or_some}
 use Rattle.text_lines.proofs.NumbersAgain.{number_back}
 use Rattle.text_lines.proofs.FrontBack.{front_back}
 use Rattle.text_lines.proofs.Parts.{part_back}
-use Rattle.transcript.specs.declared.shape.CallName.TheVariants as names
+use Rattle.task_machine.specs.declared.task.Stand.TheVariants as stands
+use Rattle.transcript.specs.declared.shape.Name.TheVariants as names
 use Rattle.transcript.specs.declared.shape.Answer.{Answer}
 use Rattle.transcript.specs.declared.shape.Answer.TheVariants as answers
-use Rattle.transcript.specs.declared.shape.SeenName.TheVariants as views
-use Rattle.transcript.specs.declared.shape.LineName.TheVariants as kinds
-use Rattle.transcript.specs.Tables.{call_row, call_names, answer_of, mask_slots, live, seen_row, seen_names, line_row, line_names}
+use Rattle.transcript.specs.Tables.{row, all_names, answer_of, mask_slots, live}
 use Rattle.transcript.specs.HasText.{HasTextSeen, HasTextCall, HasTextLine, TellsTask, TellsGroup, TellsNothing, FitsReply, FitsCall}
-use Rattle.transcript.specs.Spelling.{call_words, seen_words, fate_index, reply_words, caller_word, end_index, line_words, first_words}
-use Rattle.transcript.specs.Grammar.{call_of, seen_of, line_of, at_end, seen_in, reply_in, caller_in, entry_in, plain_in, said_by, said}
+use Rattle.transcript.specs.Spelling.{call_words, seen_words, fate_index, stand_name, reply_words, caller_word, end_index, line_words, first_words}
+use Rattle.transcript.specs.Grammar.{call_of, live_of, seen_of, line_of, at_end, alone, seen_in, reply_in, caller_in, entry_in, plain_in, said_by, said}
 
 -- no word was left
 nothing_left : {A : Type 0} (ws : List Word) (x y : A) → at_end ws x ≡ Some y → (ws ≡ []) × (x ≡ y)
@@ -36,21 +35,37 @@ Answers answers.Group r = TellsGroup r
 Answers answers.Nothing r = TellsNothing r
 
 -- the call of the values of a row has these values
-pub record CallBack (k : CallName) (vs : List Value) : Type 0 where
-  pub words : row_words (call_row k) vs ≡ call_words (call_of k vs)
-  pub fits : FitsCall (call_of k vs)
-  pub texts : (r : Reply) → Answers (answer_of k) r → HasTextCall (call_of k vs) r
+pub record CallBack (k : Name) (vs : List Value) (c : Call) : Type 0 where
+  pub words : row_words (row k) vs ≡ call_words c
+  pub fits : FitsCall c
+  pub texts : (r : Reply) → Answers (answer_of k) r → HasTextCall c r
 
-call_back : (k : CallName) (vs : List Value) → Fits (call_row k).slots vs → CallBack k vs
-call_back names.Wake (of_small i ∷ of_reasons f ∷ []) fits = record { words = refl; fits = (fits.0, fits.1.0.1); texts = λ r t. (fits.1.0.0, t) }
-call_back names.Kill (of_small i ∷ []) fits = record { words = refl; fits = fits.0; texts = λ r t. t }
-call_back names.Post (of_small i ∷ of_small b ∷ []) fits = record { words = refl; fits = (fits.0, fits.1.0); texts = λ r t. t }
-call_back names.Get (of_small g ∷ []) fits = record { words = refl; fits = fits.0; texts = λ r t. t }
-call_back names.Draw (of_small i ∷ []) fits = record { words = refl; fits = fits.0; texts = λ r t. t }
-call_back names.Take (of_small i ∷ []) fits = record { words = refl; fits = fits.0; texts = λ r t. t }
-call_back names.DropRun (of_small i ∷ []) fits = record { words = refl; fits = fits.0; texts = λ r t. t }
-call_back names.Retire (of_small i ∷ []) fits = record { words = refl; fits = fits.0; texts = λ r t. t }
-call_back k vs fits = absurd (assumption fits)
+call_back : (k : Name) (vs : List Value) (c : Call) → Fits (row k).slots vs → call_of k vs ≡ Some c → CallBack k vs c
+call_back names.Wake (of_small i ∷ of_reasons f ∷ []) c fits e = subst (CallBack names.Wake _) (some_same e) (record { words = refl; fits = (fits.0, fits.1.0.1); texts = λ r t. (fits.1.0.0, t) })
+call_back names.Kill (of_small i ∷ []) c fits e = subst (CallBack names.Kill _) (some_same e) (record { words = refl; fits = fits.0; texts = λ r t. t })
+call_back names.Post (of_small i ∷ of_small b ∷ []) c fits e = subst (CallBack names.Post _) (some_same e) (record { words = refl; fits = (fits.0, fits.1.0); texts = λ r t. t })
+call_back names.Get (of_small g ∷ []) c fits e = subst (CallBack names.Get _) (some_same e) (record { words = refl; fits = fits.0; texts = λ r t. t })
+call_back names.Draw (of_small i ∷ []) c fits e = subst (CallBack names.Draw _) (some_same e) (record { words = refl; fits = fits.0; texts = λ r t. t })
+call_back names.Take (of_small i ∷ []) c fits e = subst (CallBack names.Take _) (some_same e) (record { words = refl; fits = fits.0; texts = λ r t. t })
+call_back names.DropRun (of_small i ∷ []) c fits e = subst (CallBack names.DropRun _) (some_same e) (record { words = refl; fits = fits.0; texts = λ r t. t })
+call_back names.Retire (of_small i ∷ []) c fits e = subst (CallBack names.Retire _) (some_same e) (record { words = refl; fits = fits.0; texts = λ r t. t })
+call_back k vs c fits e = absurd (first_of ((assumption fits), (cc)))
+
+-- the row that stands alone
+record AloneBack {A : Type 0} (make : Name → List Value → Option A) (ws : List Word) (x : A) : Type 0 where
+  kind : Name
+  values : List Value
+  words : row_words (row kind) values ≡ ws
+  fits : Fits (row kind).slots values
+  makes : make kind values ≡ Some x
+
+alone_back : {A : Type 0} (make : Name → List Value → Option A) (ws : List Word) (x : A) → alone make ws ≡ Some x → AloneBack make ws x
+alone_back make ws x e =
+    let (p, found, more) = bind_some (part_at row all_names ws) _ x e in
+    let (y, makes, last) = bind_some (make p.kind p.values) _ x more in
+    let (end, same) = nothing_left p.rest y x last in
+    let (is, fits) = part_back row all_names ws p found in
+    record { kind = p.kind; values = p.values; words = sym (is ∙ ap (λ rest. row_words (row p.kind) p.values ++ rest) end ∙ append-nil (row_words (row p.kind) p.values)); fits = fits; makes = makes ∙ ap Some same }
 
 -- what a call saw
 abbrev SeenBack : List Word → Seen → Type 0
@@ -61,30 +76,22 @@ fate_same zero below = refl
 fate_same (suc zero) below = refl
 fate_same (suc (suc i)) below = absurd (omega arith)
 
-live_fits : (vs : List Value) → Fits live vs → (p : ℕ) × (i : ℕ) × (n : ℕ) × (vs ≡ of_reasons p ∷ of_index i ∷ of_number n ∷ []) × (p < 128) × (i < 2) × (n < 2 ^ 48)
-live_fits (of_reasons p ∷ of_index i ∷ of_number n ∷ []) fits = (p, i, n, refl, fits.0, fits.1.0, fits.1.1.0)
-live_fits vs fits = absurd (assumption fits)
+live_back : (stand : Stand) (vs : List Value) (s : Seen) → Fits live vs → Some (live_of stand vs) ≡ Some s → SeenBack (row_words (row (stand_name stand)) vs) s
+live_back stand (of_reasons p ∷ of_index i ∷ of_number n ∷ []) s fits e =
+    subst (SeenBack _) (some_same e) (ap (λ j. row_words (row (stand_name stand)) (of_reasons p ∷ of_index j ∷ of_number n ∷ [])) (sym (fate_same i fits.1.0)), fits.0, fits.1.1.0)
+live_back stand vs s fits e = absurd (assumption fits)
 
-seen_values_back : (k : SeenName) (vs : List Value) → Fits (seen_row k).slots vs → SeenBack (row_words (seen_row k) vs) (seen_of k vs)
-seen_values_back views.Gone [] fits = (refl, tt, tt)
-seen_values_back views.Gone (v ∷ vs) fits = absurd fits
-seen_values_back views.Rest vs fits =
-    let l = live_fits vs fits in
-    subst (λ vs. SeenBack (row_words (seen_row views.Rest) vs) (seen_of views.Rest vs)) (sym l.3) (ap (λ i. row_words (seen_row views.Rest) (of_reasons l.0 ∷ of_index i ∷ of_number l.2 ∷ [])) (sym (fate_same l.1 l.5)), l.4, l.6)
-seen_values_back views.Queued vs fits =
-    let l = live_fits vs fits in
-    subst (λ vs. SeenBack (row_words (seen_row views.Queued) vs) (seen_of views.Queued vs)) (sym l.3) (ap (λ i. row_words (seen_row views.Queued) (of_reasons l.0 ∷ of_index i ∷ of_number l.2 ∷ [])) (sym (fate_same l.1 l.5)), l.4, l.6)
-seen_values_back views.Runs vs fits =
-    let l = live_fits vs fits in
-    subst (λ vs. SeenBack (row_words (seen_row views.Runs) vs) (seen_of views.Runs vs)) (sym l.3) (ap (λ i. row_words (seen_row views.Runs) (of_reasons l.0 ∷ of_index i ∷ of_number l.2 ∷ [])) (sym (fate_same l.1 l.5)), l.4, l.6)
+seen_values_back : (k : Name) (vs : List Value) (s : Seen) → Fits (row k).slots vs → seen_of k vs ≡ Some s → SeenBack (row_words (row k) vs) s
+seen_values_back names.Gone [] s fits e = subst (SeenBack _) (some_same e) (refl, tt, tt)
+seen_values_back names.Rest vs s fits e = live_back stands.Rest vs s fits e
+seen_values_back names.Queued vs s fits e = live_back stands.Queued vs s fits e
+seen_values_back names.Runs vs s fits e = live_back stands.Runs vs s fits e
+seen_values_back k vs s fits e = absurd (first_of ((assumption fits), (cc)))
 
 seen_back : (ws : List Word) (s : Seen) → seen_in ws ≡ Some s → SeenBack ws s
 seen_back ws s e =
-    let p = bind_some (part_at seen_row seen_names ws) _ s e in
-    let end = nothing_left p.0.rest (seen_of p.0.kind p.0.values) s p.2 in
-    let back = part_back seen_row seen_names ws p.0 p.1 in
-    let whole : row_words (seen_row p.0.kind) p.0.values ≡ ws = sym (back.0 ∙ ap (λ rest. row_words (seen_row p.0.kind) p.0.values ++ rest) end.0 ∙ append-nil (row_words (seen_row p.0.kind) p.0.values)) in
-    subst (λ ws. SeenBack ws s) whole (subst (SeenBack (row_words (seen_row p.0.kind) p.0.values)) end.1 (seen_values_back p.0.kind p.0.values back.1))
+    let p = alone_back seen_of ws s e in
+    subst (λ ws. SeenBack ws s) p.words (seen_values_back p.kind p.values s p.fits p.makes)
 
 -- the answer to a call
 abbrev ReplyBack : Answer → List Word → Reply → Type 0
@@ -136,13 +143,14 @@ entry_back : (ws : List Word) (s : Said) → entry_in ws ≡ Some s → SaidBack
 entry_back [] s e = absurd (none-some s e)
 entry_back (w ∷ ws) s e =
     let k = bind_some (caller_in w) _ s e in
-    let p = bind_some (part_at call_row call_names ws) _ s k.2 in
-    let r = bind_some (reply_in (answer_of p.0.kind) p.0.rest) _ s p.2 in
+    let p = bind_some (part_at row all_names ws) _ s k.2 in
+    let c = bind_some (call_of p.0.kind p.0.values) _ s p.2 in
+    let r = bind_some (reply_in (answer_of p.0.kind) p.0.rest) _ s c.2 in
     let caller = caller_back w k.0 k.1 in
-    let part = part_back call_row call_names ws p.0 p.1 in
-    let call = call_back p.0.kind p.0.values part.1 in
+    let part = part_back row all_names ws p.0 p.1 in
+    let call = call_back p.0.kind p.0.values c.0 part.1 c.1 in
     let reply = reply_back (answer_of p.0.kind) p.0.rest r.0 r.1 in
-    let more : ws ≡ call_words (call_of p.0.kind p.0.values) ++ reply_words r.0 = part.0 ∙ ap (λ x. x ++ p.0.rest) call.words ∙ ap (λ x. call_words (call_of p.0.kind p.0.values) ++ x) reply.0 in
+    let more : ws ≡ call_words c.0 ++ reply_words r.0 = part.0 ∙ ap (λ x. x ++ p.0.rest) call.words ∙ ap (λ x. call_words c.0 ++ x) reply.0 in
     subst (SaidBack (w ∷ ws)) (some_same r.2) (cons_same caller.0 more, ((caller.1, call.fits, reply.1), call.texts r.0 reply.2))
 
 rest_same : (i : ℕ) → i < 2 → end_index (i == 0) ≡ i
@@ -150,19 +158,17 @@ rest_same zero below = refl
 rest_same (suc zero) below = refl
 rest_same (suc (suc i)) below = absurd (omega arith)
 
-line_values_back : (k : LineName) (vs : List Value) → Fits (line_row k).slots vs → SaidBack (row_words (line_row k) vs) (line_of k vs)
-line_values_back kinds.First [] fits = refl
-line_values_back kinds.Round (of_small n ∷ of_small t ∷ []) fits = (refl, (fits.0, fits.1.1.0))
-line_values_back kinds.End (of_index i ∷ of_small n ∷ []) fits = (ap (λ i. row_words (line_row kinds.End) (of_index i ∷ of_small n ∷ [])) (sym (rest_same i fits.0)), fits.1.0)
-line_values_back k vs fits = absurd (assumption fits)
+line_values_back : (k : Name) (vs : List Value) (s : Said) → Fits (row k).slots vs → line_of k vs ≡ Some s → SaidBack (row_words (row k) vs) s
+line_values_back names.First [] s fits e = subst (SaidBack _) (some_same e) refl
+line_values_back names.Round (of_small n ∷ of_small t ∷ []) s fits e = subst (SaidBack _) (some_same e) (refl, (fits.0, fits.1.1.0))
+line_values_back names.End (of_index i ∷ of_small n ∷ []) s fits e =
+    subst (SaidBack _) (some_same e) (ap (λ i. row_words (row names.End) (of_index i ∷ of_small n ∷ [])) (sym (rest_same i fits.0)), fits.1.0)
+line_values_back k vs s fits e = absurd (first_of ((assumption fits), (cc)))
 
 plain_back : (ws : List Word) (s : Said) → plain_in ws ≡ Some s → SaidBack ws s
 plain_back ws s e =
-    let p = bind_some (part_at line_row line_names ws) _ s e in
-    let end = nothing_left p.0.rest (line_of p.0.kind p.0.values) s p.2 in
-    let back = part_back line_row line_names ws p.0 p.1 in
-    let whole : row_words (line_row p.0.kind) p.0.values ≡ ws = sym (back.0 ∙ ap (λ rest. row_words (line_row p.0.kind) p.0.values ++ rest) end.0 ∙ append-nil (row_words (line_row p.0.kind) p.0.values)) in
-    subst (λ ws. SaidBack ws s) whole (subst (SaidBack (row_words (line_row p.0.kind) p.0.values)) end.1 (line_values_back p.0.kind p.0.values back.1))
+    let p = alone_back line_of ws s e in
+    subst (λ ws. SaidBack ws s) p.words (line_values_back p.kind p.values s p.fits p.makes)
 
 said_by_back : (ws : List Word) (s : Said) → said_by ws ≡ Some s → SaidBack ws s
 said_by_back ws s e = ⊎_elim (entry_back ws s) (plain_back ws s) (or_some (entry_in ws) (plain_in ws) s e)

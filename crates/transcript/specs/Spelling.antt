@@ -1,7 +1,7 @@
 -- The words of each line, and the text that they make: docs/TRANSCRIPT.md, "Words".
 use Rattle.std.specs.Prelude.{ℕ, Bool, true, false, List, [], ◌∷◌, ◌++◌, decimal}
 use Rattle.std.specs.List.{flat_map}
-use Rattle.transcript.specs.Types.{Stand, Seen, Call, Reply, Entry, Line, CallName, SeenName}
+use Rattle.transcript.specs.Types.{Stand, Seen, Call, Reply, Entry, Line, Name}
 use Rattle.task_machine.specs.declared.task.Stand.TheVariants as stands
 use Rattle.task_machine.specs.declared.task.Seen.TheVariants as seens
 use Rattle.task_machine.specs.declared.calls.Call.TheVariants as calls
@@ -11,13 +11,11 @@ use Rattle.text_lines.specs.Added.{spelled}
 use Rattle.text_lines.specs.Slots.{Value, of_small, of_number, of_reasons, of_index}
 use Rattle.text_lines.specs.Shapes.{words, row_words}
 use Rattle.transcript.specs.declared.lines.Line.TheVariants as line
-use Rattle.transcript.specs.declared.shape.CallName.TheVariants as names
-use Rattle.transcript.specs.declared.shape.SeenName.TheVariants as views
-use Rattle.transcript.specs.declared.shape.LineName.TheVariants as kinds
-use Rattle.transcript.specs.Tables.{call_row, mask_slots, seen_row, line_row}
+use Rattle.transcript.specs.declared.shape.Name.TheVariants as names
+use Rattle.transcript.specs.Tables.{row, mask_slots}
 
 -- the name of a call
-abbrev pub name_of : Call → CallName
+abbrev pub name_of : Call → Name
 name_of (calls.Wake i f) = names.Wake
 name_of (calls.Kill i) = names.Kill
 name_of (calls.Post i box) = names.Post
@@ -40,16 +38,16 @@ call_values (calls.Retire i) = of_small i.0 ∷ []
 
 -- a call
 abbrev pub call_words : Call → List Word
-call_words c = row_words (call_row (name_of c)) (call_values c)
+call_words c = row_words (row (name_of c)) (call_values c)
 
 -- where a task stands
-abbrev pub stand_name : Stand → SeenName
-stand_name stands.Rest = views.Rest
-stand_name stands.Queued = views.Queued
-stand_name stands.Runs = views.Runs
+abbrev pub stand_name : Stand → Name
+stand_name stands.Rest = names.Rest
+stand_name stands.Queued = names.Queued
+stand_name stands.Runs = names.Runs
 
-abbrev pub seen_name : Seen → SeenName
-seen_name seens.Gone = views.Gone
+abbrev pub seen_name : Seen → Name
+seen_name seens.Gone = names.Gone
 seen_name (seens.Live s pending killed takes) = stand_name s
 
 -- the place of the word for whether a task was killed
@@ -63,7 +61,7 @@ seen_values seens.Gone = []
 seen_values (seens.Live s pending killed takes) = of_reasons pending ∷ of_index (fate_index killed) ∷ of_number takes ∷ []
 
 abbrev pub seen_words : Seen → List Word
-seen_words s = row_words (seen_row (seen_name s)) (seen_values s)
+seen_words s = row_words (row (seen_name s)) (seen_values s)
 
 -- the answer to a call
 abbrev pub reply_words : Reply → List Word
@@ -86,13 +84,13 @@ end_index false = 1
 
 -- the words of a line
 abbrev pub line_words : Line → List Word
-line_words (line.Round number tick) = row_words (line_row kinds.Round) (of_small number ∷ of_small tick ∷ [])
+line_words (line.Round number tick) = row_words (row names.Round) (of_small number ∷ of_small tick ∷ [])
 line_words (line.Entry e) = entry_words e
-line_words (line.End rest last) = row_words (line_row kinds.End) (of_index (end_index rest) ∷ of_small last ∷ [])
+line_words (line.End rest last) = row_words (row names.End) (of_index (end_index rest) ∷ of_small last ∷ [])
 
 -- the words of the first line: the name and the version
 abbrev pub first_words : List Word
-first_words = row_words (line_row kinds.First) []
+first_words = row_words (row names.First) []
 
 -- a line as text
 abbrev pub line_text : Line → List ℕ

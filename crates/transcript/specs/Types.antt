@@ -5,9 +5,7 @@ pub use Rattle.task_machine.specs.declared.calls.Entry.{Entry}
 pub use Rattle.task_machine.specs.declared.task.Stand.{Stand}
 pub use Rattle.task_machine.specs.declared.task.Seen.{Seen}
 pub use Rattle.transcript.specs.declared.lines.Line.{Line}
-pub use Rattle.transcript.specs.declared.shape.CallName.{CallName}
-pub use Rattle.transcript.specs.declared.shape.SeenName.{SeenName}
-pub use Rattle.transcript.specs.declared.shape.LineName.{LineName}
+pub use Rattle.transcript.specs.declared.shape.Name.{Name}
 pub use Rattle.transcript.specs.declared.shape.Said.{Said}
 pub use Rattle.transcript.specs.declared.shape.Progress.{Progress}
 pub use Rattle.transcript.specs.declared.shape.Said.TheVariants.{First, Holds}

@@ -5,11 +5,11 @@ ghost use Rattle.text_lines.specs.Pieces.{words_in};
 ghost use Rattle.text_lines.specs.Numbers.{number};
 ghost use Rattle.text_lines.specs.Slots.{values_of, small_at, number_at, reasons_at, index_at};
 ghost use Rattle.text_lines.specs.Shapes.{kind_named, part_of, part_at};
-ghost use Rattle.transcript.specs.Tables.{call_row, call_names, seen_row, seen_names, line_row, line_names};
-ghost use Rattle.transcript.specs.Grammar.{call_of, seen_of, line_of, seen_in, reply_in, caller_in, entry_of, entry_in, plain_in, said_by, said};
+ghost use Rattle.transcript.specs.Tables.{row, calls, others, all_names};
+ghost use Rattle.transcript.specs.Grammar.{call_of, live_of, seen_of, line_of, seen_in, reply_in, caller_in, entry_of, entry_in, plain_in, said_by, said};
 
 use crate::lines::Line;
-use crate::shape::{Answer, CallName, LineName, Said, SeenName, mask_slots};
+use crate::shape::{Answer, Name, Said, mask_slots};
 use sched_base::{CallerId, TaskId};
 use task_machine::{Call, Entry, Reply, Seen, Stand};
 use text_lines::{Value, Values, Words, front, index_at, number, number_at, reasons_at, small_at};
@@ -32,68 +32,70 @@ fn said_by(words: Words<'_>) -> Option<Said>
     }
 }
 
-/// The call of this name.
-fn call_named(word: &[u8]) -> Option<CallName>
-    ensures { result ≡ kind_named call_row call_names word.now }
+/// The row of this name.
+fn named(word: &[u8]) -> Option<Name>
+    ensures { result ≡ kind_named row all_names word.now }
+{
+    match call_named(word) {
+        Some(name) => Some(name),
+        None => other_named(word),
+    }
+}
+
+/// The row of the call of this name.
+fn call_named(word: &[u8]) -> Option<Name>
+    ensures { result ≡ kind_named row calls word.now }
 {
     match word {
-        b"wake" => Some(CallName::Wake),
-        b"kill" => Some(CallName::Kill),
-        b"post" => Some(CallName::Post),
-        b"get" => Some(CallName::Get),
-        b"draw" => Some(CallName::Draw),
-        b"take" => Some(CallName::Take),
-        b"drop" => Some(CallName::DropRun),
-        b"retire" => Some(CallName::Retire),
+        b"wake" => Some(Name::Wake),
+        b"kill" => Some(Name::Kill),
+        b"post" => Some(Name::Post),
+        b"get" => Some(Name::Get),
+        b"draw" => Some(Name::Draw),
+        b"take" => Some(Name::Take),
+        b"drop" => Some(Name::DropRun),
+        b"retire" => Some(Name::Retire),
         _ => None,
     }
 }
 
-/// What this word tells that a call saw.
-fn seen_named(word: &[u8]) -> Option<SeenName>
-    ensures { result ≡ kind_named seen_row seen_names word.now }
+/// The row of this name, where it is none of a call.
+fn other_named(word: &[u8]) -> Option<Name>
+    ensures { result ≡ kind_named row others word.now }
 {
     match word {
-        b"gone" => Some(SeenName::Gone),
-        b"rest" => Some(SeenName::Rest),
-        b"queued" => Some(SeenName::Queued),
-        b"runs" => Some(SeenName::Runs),
+        b"gone" => Some(Name::Gone),
+        b"rest" => Some(Name::Rest),
+        b"queued" => Some(Name::Queued),
+        b"runs" => Some(Name::Runs),
+        b"taskrun" => Some(Name::First),
+        b"round" => Some(Name::Round),
+        b"end" => Some(Name::End),
         _ => None,
     }
 }
 
-/// The line, not an entry, with this first word.
-fn line_named(word: &[u8]) -> Option<LineName>
-    ensures { result ≡ kind_named line_row line_names word.now }
-{
-    match word {
-        b"taskrun" => Some(LineName::First),
-        b"round" => Some(LineName::Round),
-        b"end" => Some(LineName::End),
-        _ => None,
-    }
-}
-
-/// The call of these values.
-fn call_of(name: CallName, values: &[Value<'_>]) -> Call
+/// The call of these values, where the row is one of a call.
+fn call_of(name: Name, values: &[Value<'_>]) -> Option<Call>
     ensures { result ≡ call_of name (values_of values.now) }
 {
-    let first = small_at(values, 0);
+    let task = TaskId(small_at(values, 0));
     match name {
-        CallName::Wake => Call::Wake(TaskId(first), reasons_at(values, 1)),
-        CallName::Kill => Call::Kill(TaskId(first)),
-        CallName::Post => Call::Post(TaskId(first), small_at(values, 1)),
-        CallName::Get => Call::Get(first),
-        CallName::Draw => Call::Draw(TaskId(first)),
-        CallName::Take => Call::Take(TaskId(first)),
-        CallName::DropRun => Call::DropRun(TaskId(first)),
-        CallName::Retire => Call::Retire(TaskId(first)),
+        Name::Wake => Some(Call::Wake(task, reasons_at(values, 1))),
+        Name::Kill => Some(Call::Kill(task)),
+        Name::Post => Some(Call::Post(task, small_at(values, 1))),
+        Name::Get => Some(Call::Get(small_at(values, 0))),
+        Name::Draw => Some(Call::Draw(task)),
+        Name::Take => Some(Call::Take(task)),
+        Name::DropRun => Some(Call::DropRun(task)),
+        Name::Retire => Some(Call::Retire(task)),
+        _ => None,
     }
 }
 
 /// What a call saw of a task that stands there, by these values.
-fn live(stand: Stand, values: &[Value<'_>]) -> Seen
-    ensures { result ≡ Seen.Live stand (reasons_at (values_of values.now) 0) (index_at (values_of values.now) 1 == 1) (number_at (values_of values.now) 2) }
+fn live_of(stand: Stand, values: &[Value<'_>]) -> Seen
+    ensures { result ≡ live_of stand (values_of values.now) }
 {
     Seen::Live {
         stand,
@@ -103,65 +105,44 @@ fn live(stand: Stand, values: &[Value<'_>]) -> Seen
     }
 }
 
-/// What a call saw, by these values.
-fn seen_of(name: SeenName, values: &[Value<'_>]) -> Seen
+/// What a call saw, by these values, where the row tells that.
+fn seen_of(name: Name, values: &[Value<'_>]) -> Option<Seen>
     ensures { result ≡ seen_of name (values_of values.now) }
 {
     match name {
-        SeenName::Gone => Seen::Gone,
-        SeenName::Rest => live(Stand::Rest, values),
-        SeenName::Queued => live(Stand::Queued, values),
-        SeenName::Runs => live(Stand::Runs, values),
+        Name::Gone => Some(Seen::Gone),
+        Name::Rest => Some(live_of(Stand::Rest, values)),
+        Name::Queued => Some(live_of(Stand::Queued, values)),
+        Name::Runs => Some(live_of(Stand::Runs, values)),
+        _ => None,
     }
 }
 
-/// The line of these values.
-fn line_of(name: LineName, values: &[Value<'_>]) -> Said
+/// The line of these values, where the row is one of a line.
+fn line_of(name: Name, values: &[Value<'_>]) -> Option<Said>
     ensures { result ≡ line_of name (values_of values.now) }
 {
     match name {
-        LineName::First => Said::First,
-        LineName::Round => Said::Holds(Line::Round {
+        Name::First => Some(Said::First),
+        Name::Round => Some(Said::Holds(Line::Round {
             number: small_at(values, 0),
             tick: small_at(values, 1),
-        }),
-        LineName::End => Said::Holds(Line::End {
+        })),
+        Name::End => Some(Said::Holds(Line::End {
             rest: index_at(values, 0) == 0,
             last: small_at(values, 1),
-        }),
+        })),
+        _ => None,
     }
 }
 
-/// The call that stands first, its values, and the words behind it.
-fn call_at<'a>(words: Words<'a>) -> Option<(CallName, Values<'a>, Words<'a>)>
-    ensures { option_map (λ p. part_of p.0 (values_of p.1.items) (words_in p.2)) result ≡ part_at call_row call_names (words_in words.entry) }
+/// The row that stands first, its values, and the words behind it.
+#[inline(always)]
+fn part_at<'a>(words: Words<'a>) -> Option<(Name, Values<'a>, Words<'a>)>
+    ensures { option_map (λ p. part_of p.0 (values_of p.1.items) (words_in p.2)) result ≡ part_at row all_names (words_in words.entry) }
 {
     let (word, rest) = words.first()?;
-    let name = call_named(word)?;
-    match front(name.row().slots, rest) {
-        Some((values, rest)) => Some((name, values, rest)),
-        None => None,
-    }
-}
-
-/// What was seen that stands first, its values, and the words behind it.
-fn seen_at<'a>(words: Words<'a>) -> Option<(SeenName, Values<'a>, Words<'a>)>
-    ensures { option_map (λ p. part_of p.0 (values_of p.1.items) (words_in p.2)) result ≡ part_at seen_row seen_names (words_in words.entry) }
-{
-    let (word, rest) = words.first()?;
-    let name = seen_named(word)?;
-    match front(name.row().slots, rest) {
-        Some((values, rest)) => Some((name, values, rest)),
-        None => None,
-    }
-}
-
-/// The line, not an entry, that stands first, its values, and the words behind it.
-fn line_at<'a>(words: Words<'a>) -> Option<(LineName, Values<'a>, Words<'a>)>
-    ensures { option_map (λ p. part_of p.0 (values_of p.1.items) (words_in p.2)) result ≡ part_at line_row line_names (words_in words.entry) }
-{
-    let (word, rest) = words.first()?;
-    let name = line_named(word)?;
+    let name = named(word)?;
     match front(name.row().slots, rest) {
         Some((values, rest)) => Some((name, values, rest)),
         None => None,
@@ -172,13 +153,10 @@ fn line_at<'a>(words: Words<'a>) -> Option<(LineName, Values<'a>, Words<'a>)>
 fn seen_in(words: Words<'_>) -> Option<Seen>
     ensures { result ≡ seen_in (words_in words.entry) }
 {
-    match seen_at(words) {
+    match part_at(words) {
         Some((name, values, rest)) => {
-            if rest.is_at_end() {
-                Some(seen_of(name, &values))
-            } else {
-                None
-            }
+            let seen = seen_of(name, &values)?;
+            if rest.is_at_end() { Some(seen) } else { None }
         }
         None => None,
     }
@@ -234,12 +212,13 @@ fn caller_in(word: &[u8]) -> Option<u32>
 fn entry_of(caller: u32, words: Words<'_>) -> Option<Said>
     ensures { result ≡ entry_of caller (words_in words.entry) }
 {
-    match call_at(words) {
+    match part_at(words) {
         Some((name, values, rest)) => {
+            let call = call_of(name, &values)?;
             let reply = reply_in(name.answer(), rest)?;
             Some(Said::Holds(Line::Entry(Entry {
                 caller: CallerId(caller),
-                call: call_of(name, &values),
+                call,
                 reply,
             })))
         }
@@ -260,13 +239,10 @@ fn entry_in(words: Words<'_>) -> Option<Said>
 fn plain_in(words: Words<'_>) -> Option<Said>
     ensures { result ≡ plain_in (words_in words.entry) }
 {
-    match line_at(words) {
+    match part_at(words) {
         Some((name, values, rest)) => {
-            if rest.is_at_end() {
-                Some(line_of(name, &values))
-            } else {
-                None
-            }
+            let said = line_of(name, &values)?;
+            if rest.is_at_end() { Some(said) } else { None }
         }
         None => None,
     }

@@ -1,17 +1,18 @@
-//! The tables of a transcript's lines, and how far a text was read.
+//! The table of a transcript's lines, and how far a text was read.
 
 ghost use Rattle.std.specs.Prelude.{◌≡◌, ◌≤◌};
 ghost use Rattle.text_lines.specs.Slots.{row_of, slots_of};
 ghost use Rattle.text_lines.specs.Shapes.{value_count};
-ghost use Rattle.transcript.specs.Tables.{call_row, seen_row, line_row, answer_of, mask_slots};
+ghost use Rattle.transcript.specs.Tables.{row, answer_of, mask_slots};
 
 use crate::lines::Line;
 use crate::transcripts::Transcript;
 use text_lines::{Row, Slot};
 
-/// The names of the calls.
+/// The rows of the table, by their names.
 #[derive(Clone, Copy, Debug, PartialEq, Eq)]
-pub(crate) enum CallName {
+pub(crate) enum Name {
+    // The calls.
     Wake,
     Kill,
     Post,
@@ -20,6 +21,15 @@ pub(crate) enum CallName {
     Take,
     DropRun,
     Retire,
+    // What a call may see of its task.
+    Gone,
+    Rest,
+    Queued,
+    Runs,
+    // The lines that are no entries.
+    First,
+    Round,
+    End,
 }
 
 /// What an entry tells behind its call.
@@ -32,22 +42,14 @@ pub(crate) enum Answer {
     Nothing,
 }
 
-/// What a call may see of its task.
-#[derive(Clone, Copy, Debug, PartialEq, Eq)]
-pub(crate) enum SeenName {
-    Gone,
-    Rest,
-    Queued,
-    Runs,
-}
+/// Behind the name of most calls: a task, or a group.
+static NUMBER: [Slot; 1] = [Slot::Small];
 
-/// The lines that are no entries.
-#[derive(Clone, Copy, Debug, PartialEq, Eq)]
-pub(crate) enum LineName {
-    First,
-    Round,
-    End,
-}
+/// Behind `wake`: a task, and reasons.
+static WAKE: [Slot; 2] = [Slot::Small, Slot::Reasons];
+
+/// Behind `post`: a task, and a place.
+static POST: [Slot; 2] = [Slot::Small, Slot::Small];
 
 /// Behind where a live task stands: its pending reasons, whether it was killed, its takes.
 static LIVE: [Slot; 3] = [
@@ -68,47 +70,31 @@ static END: [Slot; 2] = [Slot::Choice(&[b"rest", b"limit"]), Slot::Small];
 /// The tasks of a group that were taken.
 static GROUP: [Slot; 1] = [Slot::Mask];
 
-impl CallName {
-    /// The name of the call, and the slots behind it.
+impl Name {
+    /// The name of the row, and the slots behind it.
     #[inline(always)]
     pub fn row(self) -> Row
-        ensures same { row_of result ≡ call_row self }
+        ensures same { row_of result ≡ row self }
         ensures few { value_count (slots_of result.slots.now) ≤ 4 }
     {
-        match self {
-            CallName::Wake => Row {
-                name: b"wake",
-                slots: &[Slot::Small, Slot::Reasons],
-            },
-            CallName::Kill => Row {
-                name: b"kill",
-                slots: &[Slot::Small],
-            },
-            CallName::Post => Row {
-                name: b"post",
-                slots: &[Slot::Small, Slot::Small],
-            },
-            CallName::Get => Row {
-                name: b"get",
-                slots: &[Slot::Small],
-            },
-            CallName::Draw => Row {
-                name: b"draw",
-                slots: &[Slot::Small],
-            },
-            CallName::Take => Row {
-                name: b"take",
-                slots: &[Slot::Small],
-            },
-            CallName::DropRun => Row {
-                name: b"drop",
-                slots: &[Slot::Small],
-            },
-            CallName::Retire => Row {
-                name: b"retire",
-                slots: &[Slot::Small],
-            },
-        }
+        let (name, slots): (&'static [u8], &'static [Slot]) = match self {
+            Name::Wake => (b"wake", &WAKE),
+            Name::Kill => (b"kill", &NUMBER),
+            Name::Post => (b"post", &POST),
+            Name::Get => (b"get", &NUMBER),
+            Name::Draw => (b"draw", &NUMBER),
+            Name::Take => (b"take", &NUMBER),
+            Name::DropRun => (b"drop", &NUMBER),
+            Name::Retire => (b"retire", &NUMBER),
+            Name::Gone => (b"gone", &[]),
+            Name::Rest => (b"rest", &LIVE),
+            Name::Queued => (b"queued", &LIVE),
+            Name::Runs => (b"runs", &LIVE),
+            Name::First => (b"taskrun", &FIRST),
+            Name::Round => (b"round", &ROUND),
+            Name::End => (b"end", &END),
+        };
+        Row { name, slots }
     }
 
     /// What an entry of the call tells behind it.
@@ -116,65 +102,9 @@ impl CallName {
         ensures { result ≡ answer_of self }
     {
         match self {
-            CallName::Post | CallName::Draw => Answer::Nothing,
-            CallName::Get => Answer::Group,
-            CallName::Wake
-            | CallName::Kill
-            | CallName::Take
-            | CallName::DropRun
-            | CallName::Retire => Answer::Seen,
-        }
-    }
-}
-
-impl SeenName {
-    /// The word for what was seen, and the slots behind it.
-    #[inline(always)]
-    pub fn row(self) -> Row
-        ensures same { row_of result ≡ seen_row self }
-        ensures few { value_count (slots_of result.slots.now) ≤ 4 }
-    {
-        match self {
-            SeenName::Gone => Row {
-                name: b"gone",
-                slots: &[],
-            },
-            SeenName::Rest => Row {
-                name: b"rest",
-                slots: &LIVE,
-            },
-            SeenName::Queued => Row {
-                name: b"queued",
-                slots: &LIVE,
-            },
-            SeenName::Runs => Row {
-                name: b"runs",
-                slots: &LIVE,
-            },
-        }
-    }
-}
-
-impl LineName {
-    /// The first word of the line, and the slots behind it.
-    #[inline(always)]
-    pub fn row(self) -> Row
-        ensures same { row_of result ≡ line_row self }
-        ensures few { value_count (slots_of result.slots.now) ≤ 4 }
-    {
-        match self {
-            LineName::First => Row {
-                name: b"taskrun",
-                slots: &FIRST,
-            },
-            LineName::Round => Row {
-                name: b"round",
-                slots: &ROUND,
-            },
-            LineName::End => Row {
-                name: b"end",
-                slots: &END,
-            },
+            Name::Post | Name::Draw => Answer::Nothing,
+            Name::Get => Answer::Group,
+            _ => Answer::Seen,
         }
     }
 }

@@ -6,11 +6,11 @@ ghost use Rattle.text_lines.specs.Added.{Kept, spaced};
 ghost use Rattle.text_lines.specs.Added.{spelled};
 ghost use Rattle.text_lines.specs.Slots.{values_of};
 ghost use Rattle.text_lines.specs.Shapes.{row_words};
-ghost use Rattle.transcript.specs.Tables.{call_row, line_row};
+ghost use Rattle.transcript.specs.Tables.{row};
 ghost use Rattle.transcript.specs.HasText.{HasTextEntry};
 ghost use Rattle.transcript.specs.Spelling.{call_words, stand_name, fate_index, end_index, seen_words, reply_words, head_text, entry_text, entries_text, round_text, end_text, line_text};
 
-use crate::shape::{CallName, LineName, SeenName, mask_slots};
+use crate::shape::{Name, mask_slots};
 use std::alloc::AllocError;
 use task_machine::{Call, Entry, Reply, Seen, Stand};
 use text_lines::{Value, put_bytes, put_line, put_number, put_row, put_slots};
@@ -81,7 +81,7 @@ fn put_round(out: &mut Vec<u8>, number: u32, tick: u32, entries: &[Entry]) -> Re
 {
     put_plain(
         out,
-        LineName::Round,
+        Name::Round,
         &[Value::Small(number), Value::Small(tick)],
     )?;
     for entry in entries {
@@ -91,9 +91,9 @@ fn put_round(out: &mut Vec<u8>, number: u32, tick: u32, entries: &[Entry]) -> Re
 }
 
 /// Appends a line that is no entry.
-fn put_plain(out: &mut Vec<u8>, name: LineName, values: &[Value<'_>]) -> Result<(), AllocError>
+fn put_plain(out: &mut Vec<u8>, name: Name, values: &[Value<'_>]) -> Result<(), AllocError>
     ensures kept { Kept out.old.items out.new.items }
-    ensures written { OnOk result (out.new.items ≡ out.old.items ++ spelled (row_words (line_row name) (values_of values.now))) }
+    ensures written { OnOk result (out.new.items ≡ out.old.items ++ spelled (row_words (row name) (values_of values.now))) }
 {
     put_line(out, &name.row(), values)
 }
@@ -106,40 +106,40 @@ fn put_call(out: &mut Vec<u8>, call: &Call) -> Result<(), AllocError>
     match *call {
         Call::Wake(task, reasons) => put_named(
             out,
-            CallName::Wake,
+            Name::Wake,
             &[Value::Small(task.0), Value::Reasons(reasons)],
         ),
-        Call::Kill(task) => put_named(out, CallName::Kill, &[Value::Small(task.0)]),
+        Call::Kill(task) => put_named(out, Name::Kill, &[Value::Small(task.0)]),
         Call::Post(task, place) => put_named(
             out,
-            CallName::Post,
+            Name::Post,
             &[Value::Small(task.0), Value::Small(place)],
         ),
-        Call::Get(group) => put_named(out, CallName::Get, &[Value::Small(group)]),
-        Call::Draw(task) => put_named(out, CallName::Draw, &[Value::Small(task.0)]),
-        Call::Take(task) => put_named(out, CallName::Take, &[Value::Small(task.0)]),
-        Call::DropRun(task) => put_named(out, CallName::DropRun, &[Value::Small(task.0)]),
-        Call::Retire(task) => put_named(out, CallName::Retire, &[Value::Small(task.0)]),
+        Call::Get(group) => put_named(out, Name::Get, &[Value::Small(group)]),
+        Call::Draw(task) => put_named(out, Name::Draw, &[Value::Small(task.0)]),
+        Call::Take(task) => put_named(out, Name::Take, &[Value::Small(task.0)]),
+        Call::DropRun(task) => put_named(out, Name::DropRun, &[Value::Small(task.0)]),
+        Call::Retire(task) => put_named(out, Name::Retire, &[Value::Small(task.0)]),
     }
 }
 
 /// Appends a call by its name and its values.
 #[inline(always)]
-fn put_named(out: &mut Vec<u8>, name: CallName, values: &[Value<'_>]) -> Result<(), AllocError>
+fn put_named(out: &mut Vec<u8>, name: Name, values: &[Value<'_>]) -> Result<(), AllocError>
     ensures kept { Kept out.old.items out.new.items }
-    ensures written { OnOk result (out.new.items ≡ out.old.items ++ spaced (row_words (call_row name) (values_of values.now))) }
+    ensures written { OnOk result (out.new.items ≡ out.old.items ++ spaced (row_words (row name) (values_of values.now))) }
 {
     put_row(out, &name.row(), values)
 }
 
 /// The word for where a task stands.
-fn stand_name(stand: Stand) -> SeenName
+fn stand_name(stand: Stand) -> Name
     ensures { result ≡ stand_name stand }
 {
     match stand {
-        Stand::Rest => SeenName::Rest,
-        Stand::Queued => SeenName::Queued,
-        Stand::Runs => SeenName::Runs,
+        Stand::Rest => Name::Rest,
+        Stand::Queued => Name::Queued,
+        Stand::Runs => Name::Runs,
     }
 }
 
@@ -156,7 +156,7 @@ fn put_seen(out: &mut Vec<u8>, seen: &Seen) -> Result<(), AllocError>
     ensures written { OnOk result (out.new.items ≡ out.old.items ++ spaced (seen_words seen.now)) }
 {
     match *seen {
-        Seen::Gone => put_row(out, &SeenName::Gone.row(), &[]),
+        Seen::Gone => put_row(out, &Name::Gone.row(), &[]),
         Seen::Live {
             stand,
             pending,
@@ -213,7 +213,7 @@ fn put_end(out: &mut Vec<u8>, rest: bool, last: u32) -> Result<(), AllocError>
 {
     put_plain(
         out,
-        LineName::End,
+        Name::End,
         &[Value::Index(end_index(rest)), Value::Small(last)],
     )
 }
