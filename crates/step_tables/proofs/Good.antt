@@ -15,6 +15,11 @@ pub passes : {K : Type 0} (b : Bool) (kind : K) (rest : Option K) → cond b (So
 passes true kind rest e = absurd (none-some kind (sym e))
 passes false kind rest e = (refl, e)
 
+-- and no kind is found where no test holds
+pub no_kind : {K : Type 0} (b : Bool) (kind : K) (rest : Option K) → b ≡ false → rest ≡ None → cond b (Some kind) rest ≡ None
+no_kind true kind rest e f = absurd (cc)
+no_kind false kind rest e f = f
+
 -- the row that must come next
 pub record Target (p : Progress) (line : RowLine) (task : TaskDef) : Type 0 where
   pub is_due : due p ≡ Some task

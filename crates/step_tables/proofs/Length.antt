@@ -11,8 +11,7 @@ use Rattle.step_tables.specs.Words.{pieces}
 use Rattle.step_tables.specs.Text.{script_text}
 use Rattle.step_tables.specs.Judging.{scripts, nothing, script_read, script_within, script_of, version_of, version_in, most_bytes, byte_limit}
 use Rattle.step_tables.proofs.Bounds.{bytes_most}
-use Rattle.step_tables.proofs.Walk.{read_back_from}
-use Rattle.step_tables.proofs.ReadBack.{within_back}
+use Rattle.step_tables.proofs.ReadBack.{read_back_from, within_back}
 
 -- what stands behind the byte past a limit counts for nothing
 cut_within : (limit : ℕ) (bytes : List ℕ) → script_within limit (take (limit + 1) bytes) ≡ script_within limit bytes
@@ -36,7 +35,7 @@ read_length bytes s e =
 
 -- a text that is read is the text of its script, and within the limit
 pub read_back : (bytes : List ℕ) (s : Script) → script_of bytes ≡ Ok s → (bytes ≡ script_text s) × (length bytes ≤ most_bytes bytes)
-read_back bytes s e = (within_back (most_bytes bytes) bytes s (sym (whole_text bytes) ∙ e), read_length bytes s e)
+read_back bytes s e = ((within_back (most_bytes bytes) bytes s (sym (whole_text bytes) ∙ e)).1, read_length bytes s e)
 
 -- no byte further behind the limit counts
 pub read_cut : (bytes : List ℕ) → script_of (take (byte_limit + 1) bytes) ≡ script_of bytes

@@ -6,15 +6,14 @@ pub mod Walk
 pub mod RowsOf
 pub mod SoundParts
 pub mod Valid
-pub mod Head
 pub mod WordsBack
 pub mod SoFarSaid
 pub mod ReadBack
 pub mod NameAt
 pub mod LineTexts
 pub mod WordsAgain
+pub mod WordsFine
 pub mod ShapesAgain
-pub mod RunAgain
 pub mod TasksAgain
 pub mod RowsAgain
 pub mod RowsRun

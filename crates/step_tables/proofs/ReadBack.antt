@@ -1,26 +1,37 @@
 -- From a script that was read back to its text.
 use Rattle.std.proofs.lemmas.Bool.{not-true, eqb-true, eq-eqb, both_ways}
-use Rattle.std.proofs.Common.{◌≡◌, ℕ, ◌+◌, ◌<◌, Bool, true, false, List, [], ◌∷◌, ◌++◌, map, length, set, refl, ap, sym, ◌∙◌, arith, subst, append_assoc, append-nil, lit<}
-use Rattle.std.specs.Prelude.{Option, Some, None, Ok, flat_map, decimal}
-use Rattle.std.specs.List.{join_with_byte}
+use Rattle.std.proofs.lemmas.Bool.Decides.{nat_tests}
+use Rattle.std.proofs.Common.{◌≡◌, ℕ, Bool, true, false, List, [], ◌∷◌, ◌++◌, map, length, set, refl, ap, sym, ◌∙◌, arith, subst, append_assoc, append-nil, lit<}
+use Rattle.std.specs.Prelude.{Option, Some, None, Result, Ok, Err, IfOk, IsTrue, decimal, nat_le}
 use Rattle.std.proofs.lemmas.List.{map-append}
-use Rattle.step_tables.specs.Types.{TaskDef, Setting, Workers, Depth, Start, Step, Rounds}
+use Rattle.step_tables.specs.Types.{TaskDef, Workers, Depth, Start, Step, Rounds}
 use Rattle.step_tables.specs.declared.tables.Script.{Script}
 use Rattle.step_tables.specs.declared.progress.Progress.{Progress}
-use Rattle.step_tables.specs.Words.{Word, pieces, is_empty}
-use Rattle.step_tables.specs.Shapes.{TaskLine, RowLine, EventLine, Said, sets, task, row, event, ends}
-use Rattle.step_tables.specs.Text.{header_of, row_said, event_said, names_of, settings_said, body_said, said_words, line_text, script_text}
-use Rattle.text_lines.specs.Lines.{line_over}
-use Rattle.step_tables.specs.Judging.{may_come, all_rows, due, rows_made, value, task_of, row_of, event_of, with_task, with_row, with_event, with_line, with_row_at_end, script_from, script_within}
+use Rattle.step_tables.specs.declared.faults.ScriptError.{ScriptError}
+use Rattle.step_tables.specs.declared.faults.ScriptFault.{ScriptFault}
+use Rattle.step_tables.specs.declared.faults.FaultKind.{FaultKind}
+use Rattle.step_tables.specs.Limits.{limits_of}
+use Rattle.step_tables.specs.Views.{Gives}
+use Rattle.step_tables.specs.Words.{is_empty}
+use Rattle.step_tables.specs.Sound.{is_sound}
+use Rattle.step_tables.specs.Shapes.{TaskLine, RowLine, EventLine, Said, sets, task, row, event, ends, all_settings}
+use Rattle.step_tables.specs.Text.{header_of, row_said, event_said, names_of, settings_said, body_said, said_words, line_text, lines_text, script_text}
+use Rattle.text_lines.specs.Lines.{line_over, read_within}
+use Rattle.text_lines.proofs.LinesTaken.{Steps, text_of, read_lines}
+use Rattle.step_tables.specs.Judging.{may_come, all_rows, due, rows_made, value, outside, nothing, task_of, row_of, event_of, with_setting, setting_at, with_task, with_row, with_event, with_line, with_row_at_end, script_from, script_read, script_within, scripts}
 use Rattle.step_tables.proofs.Back.{IsBody, AreOrders, IsOrder}
 use Rattle.step_tables.proofs.Good.{GoodRow, good_row, GoodEvent, good_event, GoodTask, good_task}
-use Rattle.step_tables.proofs.Steps.{Adds, header_is, judged}
+use Rattle.step_tables.proofs.Steps.{Passes, Runs, first_back}
+use Rattle.step_tables.proofs.SoundParts.{not_outside}
 use Rattle.step_tables.proofs.RowsOf.{first_of_both, second_of_both, Fresh, Filled, fresh_from_filled}
-use Rattle.step_tables.proofs.Valid.{Valid, valid_step, map_set, empty_list, task_rows, row_name}
-use Rattle.step_tables.proofs.Walk.{IsClosed, nil_back, last_back, line_back, body_line_of}
-use Rattle.step_tables.proofs.WordsBack.{value_back, words_back, lines_back}
-use Rattle.step_tables.proofs.Head.{IsSetting, HeadOf, head_read, head_of, head_others, valid_head}
+use Rattle.step_tables.proofs.Valid.{Valid, valid_start, valid_step, valid_run, valid_end, map_set, empty_list, task_rows, row_name}
+use Rattle.step_tables.proofs.Walk.{bytes_of, Settings, settings_back, run_back}
 use Rattle.step_tables.proofs.SoFarSaid.{tasks_so_far, rows_so_far, end_so_far, so_far, task_line_back, row_line_back, event_line_back, tasks_more, no_rows_so_far, no_rows_more, rows_more_so_far, tasks_same, so_far_whole}
+
+-- what was read, of a script
+pub read_back_from : (r : Result Progress (ℕ × FaultKind)) (s : Script) → script_read r ≡ Ok s → (q : Progress) × (r ≡ Ok q) × (script_from q ≡ s)
+read_back_from (Ok q) s e = (q, refl, cc)
+read_back_from (Err f) s e = absurd (cc)
 
 -- nothing but tasks so far
 only_tasks : (xs rows events : List Said) (e : Bool) → rows ≡ [] → events ≡ [] → e ≡ false → xs ++ (rows ++ (events ++ end_so_far e)) ≡ xs
@@ -95,131 +106,109 @@ said_end xs ys es e f =
     ∙ (λ i. (xs ++ (ys ++ (sym (append-nil es) ∙ (λ j. es ++ end_so_far (sym f j))) i)) ++ ends ∷ [])
 
 -- a line more is said
-said_step : (p q : Progress) (said : Said) → IsBody said → p.ended ≡ false → Adds p said q → Valid p → so_far q ≡ so_far p ++ said ∷ []
+said_step : (p : Progress) (x : Said) → Passes p x → Valid p → so_far (with_line p x) ≡ so_far p ++ x ∷ []
 unfolding with_line
-said_step p q (sets setting w) body unended a v = absurd body
-said_step p q (task line) body unended a v = ap so_far (sym a.added) ∙ said_task p line unended a.comes (good_task p line a.good) v
-said_step p q (row line) body unended a v = ap so_far (sym a.added) ∙ said_row p line body.1 unended a.comes (good_row p line a.good) v
-said_step p q (event line) body unended a v = ap so_far (sym a.added) ∙ said_event p line body unended (good_event p line a.good)
-said_step p q ends body unended a v = ap so_far (sym a.added) ∙ said_end (tasks_so_far p.tasks p.counts) (rows_so_far (names_of p.tasks) p.tasks) (map (event_said (names_of p.tasks)) p.events) p.ended unended
+said_step p (sets setting w) a v = absurd a.body
+said_step p (task line) a v = said_task p line a.unended a.comes (good_task p line a.good) v
+said_step p (row line) a v = said_row p line a.body.1 a.unended a.comes (good_row p line a.good) v
+said_step p (event line) a v = said_event p line a.body a.unended (good_event p line a.good)
+said_step p ends a v = said_end (tasks_so_far p.tasks p.counts) (rows_so_far (names_of p.tasks) p.tasks) (map (event_said (names_of p.tasks)) p.events) p.ended a.unended
 
--- a line's bytes, without the line feed
-abbrev bytes_of : Said → List ℕ
-bytes_of said = join_with_byte 32 (said_words said)
+said_run : (p q : Progress) (xs : List Said) → Runs p xs q → Valid p → so_far q ≡ so_far p ++ xs
+said_run p q [] r v = ap so_far (sym r) ∙ sym (append-nil (so_far p))
+said_run p q (x ∷ xs) r v = said_run (with_line p x) q xs r.1 (valid_step p x r.0 v) ∙ ap (λ ys. ys ++ xs) (said_step p x r.0 v) ∙ append_assoc (so_far p) (x ∷ []) xs
 
--- the settings stay as they are behind their lines
-abbrev SameSettings : Progress → Progress → Type 0
-SameSettings p q = (q.version ≡ p.version) × (q.workers ≡ p.workers) × (q.depth ≡ p.depth) × (q.start ≡ p.start) × (q.step ≡ p.step) × (q.rounds ≡ p.rounds)
+-- the version and the settings alone
+abbrev head : Progress → Progress
+head p = record { version = p.version; workers = p.workers; depth = p.depth; start = p.start; step = p.step; rounds = p.rounds; tasks = []; counts = []; at = 0; events = []; ended = false }
 
-settings_kept : (p q : Progress) (said : Said) → IsBody said → with_line p said ≡ q → SameSettings p q
+-- they stay as they are behind their lines
+head_step : (p : Progress) (x : Said) → IsBody x → head (with_line p x) ≡ head p
 unfolding with_line with_task with_row with_event
-settings_kept p q (sets setting w) body a = absurd body
-settings_kept p q (task line) body a = subst (SameSettings p) a (refl, refl, refl, refl, refl, refl)
-settings_kept p q (row line) body a = subst (SameSettings p) a (kept (due p))
+head_step p (sets setting w) body = absurd body
+head_step p (task line) body = refl
+head_step p (row line) body = go (due p)
   where
-    kept : (d : Option TaskDef) → SameSettings p (with_row p d (row_of p.tasks line))
-    kept None = (refl, refl, refl, refl, refl, refl)
-    kept (Some t) = (refl, refl, refl, refl, refl, refl)
-settings_kept p q (event line) body a = subst (SameSettings p) a (refl, refl, refl, refl, refl, refl)
-settings_kept p q ends body a = subst (SameSettings p) a (refl, refl, refl, refl, refl, refl)
+    go : (d : Option TaskDef) → head (with_row p d (row_of p.tasks line)) ≡ head p
+    go None = refl
+    go (Some t) = refl
+head_step p (event line) body = refl
+head_step p ends body = refl
 
--- the lines that are left, and what they say
-record LinesLeft (p : Progress) (lines : List (List ℕ)) (s : Script) : Type 0 where
+head_run : (p q : Progress) (xs : List Said) → Runs p xs q → head q ≡ head p
+head_run p q [] r = ap head (sym r)
+head_run p q (x ∷ xs) r = head_run (with_line p x) q xs r.1 ∙ head_step p x r.0.body
+
+-- a text that is read: its lines, and what they say
+record Parts (lines : List (List ℕ)) (q : Progress) : Type 0 where
+  start : Progress
+  bare : head start ≡ start
+  valid : Valid start
   said : List Said
-  cut : lines ≡ map bytes_of said ++ [] ∷ []
-  whole : so_far p ++ said ≡ body_said s.tasks s.events
-  version : s.version ≡ p.version
-  workers : s.workers ≡ p.workers
-  depth : s.depth ≡ p.depth
-  start : s.start ≡ p.start
-  step : s.step ≡ p.step
-  rounds : s.rounds ≡ p.rounds
+  cut : lines ≡ header_of start.version ∷ map bytes_of (settings_said (script_from start) ++ said)
+  runs : Runs start said q
+  ended : q.ended ≡ true
 
-at_end : (p : Progress) (piece : List ℕ) (s : Script) → Valid p → IsClosed p piece s → LinesLeft p (piece ∷ []) s
-unfolding script_from
-at_end p piece s v is = record {
-  said = [];
-  cut = ap (λ x. x ∷ []) is.nothing;
-  whole = append-nil (so_far p) ∙ so_far_whole p v is.ended ∙ ap (λ t. body_said t.tasks t.events) is.script;
-  version = ap (λ t. t.version) (sym is.script);
-  workers = ap (λ t. t.workers) (sym is.script);
-  depth = ap (λ t. t.depth) (sym is.script);
-  start = ap (λ t. t.start) (sym is.script);
-  step = ap (λ t. t.step) (sym is.script);
-  rounds = ap (λ t. t.rounds) (sym is.script);
-}
-
-lines_left : (long : Option ℕ) (n : ℕ) (p : Progress) (line : List ℕ) (lines : List (List ℕ)) (s : Script) → 6 < n → Valid p → judged long n p (line ∷ lines) ≡ Ok s → LinesLeft p (line ∷ lines) s
-lines_left long n p line [] s behind v e = at_end p line s v (last_back long n p line s e)
-lines_left long n p line (next ∷ lines) s behind v e =
-    let one = line_back long n p line next lines s e in
-    let body = body_line_of long n line p one.after behind one.is in
-    let more = lines_left long (n + 1) one.after next lines s (omega arith) (valid_step p one.after body.said body.body body.unended body.adds v) one.others in
-    let kept = settings_kept p one.after body.said body.body body.adds.added in
+parts : (lines : List (List ℕ)) (q : Progress) → Steps scripts 1 nothing lines q → Parts lines q
+unfolding with_setting setting_at script_from
+parts [] q steps = absurd (cc)
+parts (line ∷ lines) q steps =
+    let (m, going, good, more) = steps in
+    let (v, line_is, newest_, opens) = first_back nothing m line good in
+    let opened : Progress = record nothing { version = v } in
+    let w : Settings all_settings 2 opened lines q = settings_back all_settings 2 opened q lines (refl, (refl, (refl, (refl, (refl, tt))))) (lit< tt) refl (subst (λ m. Steps scripts 2 m lines q) (sym opens) more) in
+    let d = w.4 in
+    let t = d.4 in
+    let k = t.4 in
+    let r = k.4 in
+    let start : Progress = record opened { workers = w.0; depth = d.0; start = t.0; step = k.0; rounds = r.0 } in
+    let (said, are, runs, ended) = run_back 7 start q r.1 (lit< tt) r.4 in
     record {
-      said = body.said ∷ more.said;
-      cut = λ i. words_back line (said_words body.said) body.words i ∷ more.cut i;
-      whole = sym (append_assoc (so_far p) (body.said ∷ []) more.said) ∙ ap (λ r. r ++ more.said) (sym (said_step p one.after body.said body.body body.unended body.adds v)) ∙ more.whole;
-      version = more.version ∙ kept.0;
-      workers = more.workers ∙ kept.1;
-      depth = more.depth ∙ kept.2;
-      start = more.start ∙ kept.3;
-      step = more.step ∙ kept.4;
-      rounds = more.rounds ∙ kept.5;
+      start = start;
+      bare = refl;
+      valid = valid_start start (record {
+        version = newest_;
+        workers = not_outside 1 (limits_of v).workers w.0 w.3;
+        depth = not_outside 1 (limits_of v).depth d.0 d.3;
+        start = at_most t.0 (limits_of v).start t.3;
+        step = not_outside 1 (limits_of v).step k.0 k.3;
+        rounds = not_outside 1 (limits_of v).rounds r.0 r.3;
+      }) refl;
+      said = said;
+      cut = (λ i. line_is i ∷ lines) ∙ ap (λ ls. header_of v ∷ ls) (w.2 ∙ ap (λ ls. bytes_of (sets Workers (decimal w.0)) ∷ ls) (d.2 ∙ ap (λ ls. bytes_of (sets Depth (decimal d.0)) ∷ ls) (t.2 ∙ ap (λ ls. bytes_of (sets Start (decimal t.0)) ∷ ls)
+          (k.2 ∙ ap (λ ls. bytes_of (sets Step (decimal k.0)) ∷ ls) (r.2 ∙ ap (λ ls. bytes_of (sets Rounds (decimal r.0)) ∷ ls) are)))));
+      runs = runs;
+      ended = ended;
     }
+  where
+    at_most : (n high : ℕ) → outside 0 high n ≡ false → nat_le n high ≡ true
+    at_most n high e = grind (arith, nat_tests)
 
--- joined lines
-join_lines : (said : List Said) → join_with_byte 10 (map bytes_of said ++ [] ∷ []) ≡ flat_map (λ x. line_text (said_words x)) said
-join_lines [] = refl
-join_lines (x ∷ []) = sym (append_assoc (bytes_of x) (10 ∷ []) []) ∙ refl
-join_lines (x ∷ y ∷ xs) = ap (λ r. bytes_of x ++ 10 ∷ r) (join_lines (y ∷ xs)) ∙ sym (append_assoc (bytes_of x) (10 ∷ []) (flat_map (λ z. line_text (said_words z)) (y ∷ xs)))
+-- the text of lines
+text_said : (xs : List Said) → text_of (map bytes_of xs) ≡ lines_text xs
+text_said [] = refl
+text_said (x ∷ xs) = ap (λ r. line_text (said_words x) ++ r) (text_said xs)
 
--- the line of a setting is what is written of its value
-setting_line_is : (v : ℕ) (setting : Setting) (line : List ℕ) (word : Word) → IsSetting v setting line word → line ≡ bytes_of (sets setting (decimal (value word)))
-setting_line_is v setting line word is = words_back line _ is.words ∙ ap (λ w. bytes_of (sets setting w)) (value_back word is.number)
-
--- there is a line behind the first six
-some_rest : (long : Option ℕ) (n : ℕ) (p : Progress) (lines : List (List ℕ)) (s : Script) → p.ended ≡ false → judged long n p lines ≡ Ok s → is_empty lines ≡ false
-some_rest long n p [] s unended e = absurd (both_ways p.ended unended (nil_back long n p s e).ended)
-some_rest long n p (line ∷ lines) s unended e = refl
-
-lines_left_of : (long : Option ℕ) (n : ℕ) (p : Progress) (lines : List (List ℕ)) (s : Script) → is_empty lines ≡ false → 6 < n → Valid p → judged long n p lines ≡ Ok s → LinesLeft p lines s
-lines_left_of long n p [] s some behind v e = absurd (cc)
-lines_left_of long n p (line ∷ lines) s some behind v e = lines_left long n p line lines s behind v e
-
-setting_cons : (v : ℕ) (setting : Setting) (lines : List (List ℕ)) (line : List ℕ) (rest : List (List ℕ)) (word : Word) (m : ℕ)
-    → lines ≡ line ∷ rest → IsSetting v setting line word → m ≡ value word → lines ≡ bytes_of (sets setting (decimal m)) ∷ rest
-setting_cons v setting lines line rest word m cut is same = cut ∙ ap (λ l. l ∷ rest) (setting_line_is v setting line word is ∙ ap (λ k. bytes_of (sets setting (decimal k))) (sym same))
-
-six_lines : (lines r1 r2 r3 r4 r5 r6 r7 : List (List ℕ)) (h a b c d e : List ℕ)
-    → lines ≡ h ∷ r1 → r1 ≡ a ∷ r2 → r2 ≡ b ∷ r3 → r3 ≡ c ∷ r4 → r4 ≡ d ∷ r5 → r5 ≡ e ∷ r6 → r6 ≡ r7
-    → lines ≡ h ∷ a ∷ b ∷ c ∷ d ∷ e ∷ r7
-six_lines lines r1 r2 r3 r4 r5 r6 r7 h a b c d e e1 e2 e3 e4 e5 e6 e7 =
-    e1 ∙ ap (λ r. h ∷ r) (e2 ∙ ap (λ r. a ∷ r) (e3 ∙ ap (λ r. b ∷ r) (e4 ∙ ap (λ r. c ∷ r) (e5 ∙ ap (λ r. d ∷ r) (e6 ∙ ap (λ r. e ∷ r) e7)))))
-
--- the lines of a text that is read
-lines_of_read : (long : Option ℕ) (lines : List (List ℕ)) (s : Script) (h : HeadOf long lines s) (left : LinesLeft (head_read long lines s h) h.six.rest s)
-    → lines ≡ header_of s.version ∷ (map bytes_of (settings_said s ++ body_said s.tasks s.events) ++ [] ∷ [])
-lines_of_read long lines s h left = six_lines lines h.behind h.two.rest h.three.rest h.four.rest h.five.rest h.six.rest (map bytes_of (body_said s.tasks s.events) ++ [] ∷ [])
-    (header_of s.version) (bytes_of (sets Workers (decimal s.workers))) (bytes_of (sets Depth (decimal s.depth))) (bytes_of (sets Start (decimal s.start))) (bytes_of (sets Step (decimal s.step))) (bytes_of (sets Rounds (decimal s.rounds)))
-    (h.first ∙ ap (λ l. l ∷ h.behind) ((header_is h.line h.version h.says).0 ∙ ap header_of (sym left.version)))
-    (setting_cons _ Workers h.behind h.two.line h.two.rest h.two.word s.workers h.two.cut h.two.is left.workers)
-    (setting_cons _ Depth h.two.rest h.three.line h.three.rest h.three.word s.depth h.three.cut h.three.is left.depth)
-    (setting_cons _ Start h.three.rest h.four.line h.four.rest h.four.word s.start h.four.cut h.four.is left.start)
-    (setting_cons _ Step h.four.rest h.five.line h.five.rest h.five.word s.step h.five.cut h.five.is left.step)
-    (setting_cons _ Rounds h.five.rest h.six.line h.six.rest h.six.word s.rounds h.six.cut h.six.is left.rounds)
-    (left.cut ∙ ap (λ xs. map bytes_of xs ++ [] ∷ []) left.whole)
-
-text_of_lines : (bytes : List ℕ) (s : Script) → pieces 10 bytes ≡ header_of s.version ∷ (map bytes_of (settings_said s ++ body_said s.tasks s.events) ++ [] ∷ []) → bytes ≡ script_text s
-unfolding script_text
-text_of_lines bytes s e = lines_back bytes _ e ∙ ap (λ r. header_of s.version ++ 10 ∷ r) (join_lines (settings_said s ++ body_said s.tasks s.events))
-
--- a text that is read is the text of its script
-pub within_back : (limit : ℕ) (bytes : List ℕ) (s : Script) → script_within limit bytes ≡ Ok s → bytes ≡ script_text s
+-- a text that is read is the text of its script, which is in range
+pub within_back : (limit : ℕ) (bytes : List ℕ) (s : Script) → script_within limit bytes ≡ Ok s → (is_sound s ≡ true) × (bytes ≡ script_text s)
+unfolding script_text script_from
 within_back limit bytes s e =
-    let long : Option ℕ = line_over limit bytes in
-    let h = head_of (line_over limit bytes) (pieces 10 bytes) s e in
-    let others = head_others (line_over limit bytes) (pieces 10 bytes) s h in
-    let left = lines_left_of (line_over limit bytes) 7 (head_read (line_over limit bytes) (pieces 10 bytes) s h) h.six.rest s
-    (some_rest (line_over limit bytes) 7 (head_read (line_over limit bytes) (pieces 10 bytes) s h) h.six.rest s refl others) (lit< tt) (valid_head (line_over limit bytes) (pieces 10 bytes) s h) others in
-    text_of_lines bytes s (lines_of_read (line_over limit bytes) (pieces 10 bytes) s h left)
+    let (q, is, same) = read_back_from (read_within scripts nothing limit bytes) s e in
+    let (lines, text, steps) = read_lines scripts (line_over limit bytes) nothing q bytes is in
+    let p = parts lines q steps in
+    let valid = valid_run p.start q p.said p.runs p.valid in
+    let body : p.said ≡ body_said q.tasks q.events = sym (said_run p.start q p.said p.runs p.valid ∙ ap (λ k. so_far k ++ p.said) (sym p.bare)) ∙ so_far_whole q valid p.ended in
+    let first : Progress → List Said → List ℕ = λ k xs. header_of k.version ++ 10 ∷ lines_text (settings_said (script_from k) ++ xs) in
+    let whole : bytes ≡ script_text (script_from q) =
+    text ∙ ap text_of p.cut ∙ append_assoc (header_of p.start.version) (10 ∷ []) _ ∙ ap (λ r. header_of p.start.version ++ 10 ∷ r) (text_said (settings_said (script_from p.start) ++ p.said))
+    ∙ (λ i. first (sym p.bare i) (body i)) ∙ ap (λ k. first k (body_said q.tasks q.events)) (sym (head_run p.start q p.said p.runs)) in
+    (ap is_sound (sym same) ∙ valid_end q valid p.ended, whole ∙ ap script_text same)
+
+pub gives_sound : (r : Result Script ScriptError) (limit : ℕ) (bytes : List ℕ) → Gives r (script_within limit bytes) → IfOk r (λ s. IsTrue (is_sound s))
+gives_sound (Ok s) limit bytes e = (within_back limit bytes s e).0
+gives_sound (Err e) limit bytes given = tt
+
+-- what a text is read as is in range
+pub read_sound : (r : Result Script ScriptFault) (limit : ℕ) (bytes : List ℕ) → r ≡ script_within limit bytes → IfOk r (λ s. IsTrue (is_sound s))
+read_sound (Ok s) limit bytes e = (within_back limit bytes s (sym e)).0
+read_sound (Err f) limit bytes e = tt

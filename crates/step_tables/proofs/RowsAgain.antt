@@ -1,22 +1,21 @@
 -- The row lines of a script in range pass.
-use Rattle.std.proofs.lemmas.Bool.{and_from, or_parts, or_from, ltb-true, lt-ltb}
+use Rattle.std.proofs.lemmas.Bool.{or_parts, or_from, ltb-true, lt-ltb}
 use Rattle.std.proofs.Common.{◌≡◌, ℕ, suc, zero, ◌+◌, ◌^◌, ◌<◌, Bool, true, false, cond, List, [], ◌∷◌, map, length, refl, ap, ◌∙◌, arith}
-use Rattle.std.specs.Prelude.{Some, None, is_none, unwrap_or, bytes_eq, ◌&&◌, not, nat_lt, nat_le, decimal, flat_map}
+use Rattle.std.specs.Prelude.{Some, None, is_none, unwrap_or, bytes_eq, ◌&&◌, not, nat_lt, nat_le, decimal}
 use Rattle.std.specs.List.{list_all, list_any, position_or_len}
 use Rattle.std.proofs.lemmas.Bool.Decides.{nat_tests}
 use Rattle.std.proofs.lemmas.List.{length-map}
-use Rattle.std.proofs.lemmas.List.Folds.{list_all-append}
 use Rattle.step_tables.specs.Types.{Action, Wake, Kill, Expiry, Keep, After, Never, Kind, Pinned, Shared, Tasklet, Row, TaskDef}
 use Rattle.step_tables.specs.Words.{Word, is_name}
 use Rattle.step_tables.specs.Shapes.{RowLine}
-use Rattle.step_tables.specs.Text.{order_words, delay_words, name_at, order_said, delay_said, names_of}
+use Rattle.step_tables.specs.Text.{name_at, order_said, delay_said, names_of}
 use Rattle.step_tables.specs.Sound.{within, is_sound_action, is_sound_expiry, is_sound_row, distinct_names}
 use Rattle.step_tables.specs.Limits.{most_actions, most_delay}
 use Rattle.step_tables.specs.Judging.{outside, delay_no_number, delay_outside, named, unknown, number_named, order_name, action_of, expiry_of, row_of, is_timerless, is_expiry}
 use Rattle.std.proofs.lemmas.Slice.Eq.{bytes_eq-Decides}
 use Rattle.step_tables.proofs.RowsOf.{first_of_both, second_of_both}
 use Rattle.step_tables.proofs.Back.{IsOrder, AreOrders}
-use Rattle.step_tables.proofs.WordsAgain.{is_word, are_words, number_is_word, is_number, value_again, name_is_word, reasons_is_word}
+use Rattle.step_tables.proofs.WordsAgain.{is_number, value_again}
 use Rattle.step_tables.proofs.Bounds.{within_outside, delay_small}
 
 pub same_word : (w : Word) → bytes_eq w w ≡ true
@@ -95,14 +94,6 @@ unfolding order_said
 order_known tasks (Wake i reasons) d e = known_again tasks i.0 d (ltb-true i.0 (length tasks) (first_of_both (nat_lt i.0 (length tasks)) _ e))
 order_known tasks (Kill i) d e = known_again tasks i.0 d (ltb-true i.0 (length tasks) e)
 
-pub order_are_words : (tasks : List TaskDef) (a : Action) → list_all is_name (names_of tasks) ≡ true → is_sound_action (length tasks) a ≡ true → are_words (order_words (order_said (names_of tasks) a)) ≡ true
-unfolding order_said
-order_are_words tasks (Wake i reasons) fine e =
-    let range = within_reasons reasons (second_of_both (nat_lt i.0 (length tasks)) _ e) in
-    let name = name_fine tasks i.0 fine (ltb-true i.0 (length tasks) (first_of_both (nat_lt i.0 (length tasks)) _ e)) in
-    and_from true _ refl (and_from _ _ (name_is_word (name_at (names_of tasks) i.0) name) (and_from _ true (reasons_is_word reasons range.0 range.1) refl))
-order_are_words tasks (Kill i) fine e = and_from true _ refl (and_from _ true (name_is_word (name_at (names_of tasks) i.0) (name_fine tasks i.0 fine (ltb-true i.0 (length tasks) e))) refl)
-
 pub actions_again : (tasks : List TaskDef) (as_ : List Action) → distinct_names (names_of tasks) ≡ true → list_all (is_sound_action (length tasks)) as_ ≡ true → map (action_of tasks) (map (order_said (names_of tasks)) as_) ≡ as_
 actions_again tasks [] d e = refl
 actions_again tasks (a ∷ as_) d e = λ i. action_again tasks a d (first_of_both _ _ e) i ∷ actions_again tasks as_ d (second_of_both (is_sound_action (length tasks) a) _ e) i
@@ -115,12 +106,6 @@ pub orders_known : (tasks : List TaskDef) (as_ : List Action) → distinct_names
 orders_known tasks [] d e = refl
 orders_known tasks (a ∷ as_) d e =
     or_from (unknown tasks (order_name (order_said (names_of tasks) a))) _ (order_known tasks a d (first_of_both _ _ e)) (orders_known tasks as_ d (second_of_both (is_sound_action (length tasks) a) _ e))
-
-pub orders_are_words : (tasks : List TaskDef) (as_ : List Action) → list_all is_name (names_of tasks) ≡ true → list_all (is_sound_action (length tasks)) as_ ≡ true → are_words (flat_map order_words (map (order_said (names_of tasks)) as_)) ≡ true
-orders_are_words tasks [] fine e = refl
-orders_are_words tasks (a ∷ as_) fine e =
-    list_all-append is_word (order_words (order_said (names_of tasks) a)) (flat_map order_words (map (order_said (names_of tasks)) as_))
-    ∙ and_from _ _ (order_are_words tasks a fine (first_of_both _ _ e)) (orders_are_words tasks as_ fine (second_of_both (is_sound_action (length tasks) a) _ e))
 
 -- an expiry in range
 pub delay_number : (kind : Kind) (e : Expiry) → is_sound_expiry kind e ≡ true → delay_no_number (delay_said e) ≡ false
@@ -156,14 +141,6 @@ expiry_again (Pinned home nice) (After ticks) h = ap After (value_again ticks (d
 expiry_again (Shared nice) (After ticks) h = absurd (cc)
 expiry_again (Tasklet home class) (After ticks) h = absurd (cc)
 expiry_again kind Never h = refl
-
-pub delay_are_words : (kind : Kind) (e : Expiry) → is_sound_expiry kind e ≡ true → are_words (delay_words (delay_said e)) ≡ true
-unfolding delay_said
-delay_are_words kind Keep h = refl
-delay_are_words (Pinned home nice) (After ticks) h = and_from true _ refl (and_from _ true (number_is_word ticks (delay_small ticks h)) refl)
-delay_are_words (Shared nice) (After ticks) h = absurd (cc)
-delay_are_words (Tasklet home class) (After ticks) h = absurd (cc)
-delay_are_words kind Never h = refl
 
 -- a row's line
 abbrev pub row_line_of : List Word → Word → ℕ → Row → RowLine

@@ -1,29 +1,29 @@
 -- The row lines of a script in range pass, one after another.
 use Rattle.std.proofs.lemmas.Option.{slice_get_within}
-use Rattle.std.proofs.lemmas.Bool.{and_from, or_from, eq-eqb, leb-true, lt-leb, ltb-true, le-ltb, not_from_true}
+use Rattle.std.proofs.lemmas.Bool.{or_from, eq-eqb, leb-true, lt-leb, ltb-true, le-ltb, not_from_true}
 use Rattle.std.proofs.Common.{◌≡◌, ℕ, suc, ◌+◌, ◌^◌, ◌≤◌, ◌<◌, Bool, true, false, cond, List, [], ◌∷◌, ◌++◌, map, length, set, refl, ap, sym, ◌∙◌, arith, subst, append_assoc, append-nil, length-append}
-use Rattle.std.specs.Prelude.{Some, None, bytes_eq, codes, not, ◌==◌, nat_lt, nat_le, decimal, slice_get, slice_index, flat_map, if◌then◌else◌}
+use Rattle.std.specs.Prelude.{Some, None, bytes_eq, not, ◌==◌, nat_lt, nat_le, decimal, slice_get, slice_index, flat_map, if◌then◌else◌}
 use Rattle.std.specs.List.{list_all}
 use Rattle.std.proofs.lemmas.Bool.Decides.{nat_tests}
 use Rattle.std.proofs.lemmas.List.{map-append, length-map, get_or_at}
-use Rattle.std.proofs.lemmas.List.Folds.{list_all-append}
 use Rattle.step_tables.specs.declared.faults.FaultKind.TheVariants as kinds
-use Rattle.step_tables.specs.Types.{Kind, Row, TaskDef}
+use Rattle.step_tables.specs.Types.{Row, TaskDef}
 use Rattle.step_tables.specs.declared.tables.Script.{Script}
 use Rattle.step_tables.specs.declared.progress.Progress.{Progress}
 use Rattle.step_tables.specs.Words.{Word, is_name}
 use Rattle.step_tables.specs.Shapes.{row}
-use Rattle.step_tables.specs.Text.{order_words, delay_words, said_words, name_at, order_said, delay_said, row_said, rows_said, names_of}
+use Rattle.step_tables.specs.Text.{name_at, order_said, delay_said, row_said, rows_said, names_of}
 use Rattle.step_tables.specs.Sound.{within, is_sound_action, is_sound_expiry, is_sound_kind, is_sound_row, is_sound_task, distinct_names}
 use Rattle.step_tables.specs.Limits.{most_rows, most_actions}
 use Rattle.step_tables.specs.Judging.{all_rows, due, promised, value, no_number, delay_no_number, unknown, wrong_target, barred, with_row_at_end, with_row, with_line}
 use Rattle.step_tables.proofs.RowsOf.{first_of_both, second_of_both}
 use Rattle.step_tables.proofs.NameAt.{name_there}
-use Rattle.step_tables.proofs.WordsAgain.{is_word, are_words, number_is_word, is_number, value_again, name_is_word}
-use Rattle.step_tables.proofs.RunAgain.{Passes, Runs, runs_then, no_kind}
+use Rattle.step_tables.proofs.WordsAgain.{is_number, value_again}
+use Rattle.step_tables.proofs.Good.{no_kind}
+use Rattle.step_tables.proofs.Steps.{Passes, Runs, runs_then}
 use Rattle.step_tables.proofs.Bounds.{within_most, rows_small}
 use Rattle.step_tables.proofs.TasksAgain.{base, bare, lens, bare_names}
-use Rattle.step_tables.proofs.RowsAgain.{known_again, name_fine, orders_fine, orders_known, orders_are_words, delay_number, delay_inside, delay_allowed, delay_are_words, row_line_of, row_again_of, same_word, chosen_then}
+use Rattle.step_tables.proofs.RowsAgain.{known_again, name_fine, orders_fine, orders_known, delay_number, delay_inside, delay_allowed, row_line_of, row_again_of, same_word, chosen_then}
 
 -- a row that comes now, of a task with so many rows
 pub record RowNow (p : Progress) (u : TaskDef) (rows : ℕ) (r : Row) : Type 0 where
@@ -43,18 +43,6 @@ due_name p u e = name_there p.tasks p.at u e
 small_below : (a b : ℕ) → a < 10 ^ 10 → b < a → b < 10 ^ 10
 small_below a b h k = omega arith
 
-row_words : (tasks : List TaskDef) (kind : Kind) (rows : ℕ) (name : Word) (k : ℕ) (r : Row) → list_all is_name (names_of tasks) ≡ true → rows < 10 ^ 10 → k < 10 ^ 10 → is_name name ≡ true → is_sound_row (length tasks) kind rows r ≡ true
-    → are_words (said_words (row (row_line_of (names_of tasks) name k r))) ≡ true
-row_words tasks kind rows name k r fine few small named e =
-    let e_2 = second_of_both (nat_le (length r.actions) most_actions) _ e in
-    let e_3 = second_of_both (list_all (is_sound_action (length tasks)) r.actions) _ e_2 in
-    let next : r.next < rows = ltb-true r.next rows (second_of_both (is_sound_expiry kind r.expiry) _ e_3) in
-    and_from true _ refl (and_from _ _ (name_is_word name named) (and_from _ _ (number_is_word k small)
-    (list_all-append is_word (flat_map order_words (map (order_said (names_of tasks)) r.actions)) (delay_words (delay_said r.expiry) ++ codes "next" ∷ decimal r.next ∷ [])
-    ∙ and_from _ _ (orders_are_words tasks r.actions fine (first_of_both (list_all (is_sound_action (length tasks)) r.actions) _ e_2))
-    (list_all-append is_word (delay_words (delay_said r.expiry)) (codes "next" ∷ decimal r.next ∷ [])
-    ∙ and_from _ _ (delay_are_words kind r.expiry (first_of_both (is_sound_expiry kind r.expiry) _ e_3)) (and_from true _ refl (and_from _ true (number_is_word r.next (small_below rows r.next few next)) refl))))))
-
 -- it passes
 row_passes : (p : Progress) (u : TaskDef) (rows : ℕ) (r : Row) → RowNow p u rows r → Passes p (row (row_line_of (names_of p.tasks) u.name (length u.rows) r))
 row_passes p u rows r now =
@@ -71,7 +59,6 @@ row_passes p u rows r now =
     record {
       unended = now.unended;
       body = (named, orders_fine p.tasks r.actions now.fine actions);
-      words = row_words p.tasks u.kind rows u.name (length u.rows) r now.fine now.few k_small named e;
       comes = ap not now.left;
       good =
           no_kind _ kinds.Number _ (or_from (no_number (decimal (length u.rows))) _ (is_number (length u.rows) k_small) (or_from (delay_no_number (delay_said r.expiry)) _ (delay_number u.kind r.expiry expiry) (is_number r.next next_small)))

@@ -1,49 +1,34 @@
 -- What is known of a line that was taken.
-use Rattle.std.proofs.Common.{◌≡◌, ℕ, ◌+◌, Bool, true, false, cond, List, [], ◌∷◌, refl, inl, inr, ◌⊎◌, ap, subst}
-use Rattle.std.specs.Prelude.{Option, Some, None, Result, Ok, Err, codes, bytes_eq, ◌==◌}
-use Rattle.std.proofs.lemmas.Bool.{eqb-true}
+use Rattle.std.proofs.Common.{◌≡◌, ℕ, ◌<◌, Bool, true, false, cond, List, [], ◌∷◌, ◌++◌, refl, sym, inl, inr, ◌⊎◌, subst, arith}
+use Rattle.std.specs.Prelude.{Option, Some, None, Ok, codes, bytes_eq, ◌==◌}
+use Rattle.std.proofs.lemmas.Bool.{cond-false}
+use Rattle.std.proofs.lemmas.Bool.Decides.{nat_tests}
 use Rattle.step_tables.specs.declared.faults.FaultKind.{FaultKind}
-use Rattle.step_tables.specs.declared.faults.ScriptFault.{ScriptFault}
-use Rattle.step_tables.specs.declared.tables.Script.{Script}
 use Rattle.step_tables.specs.declared.progress.Progress.{Progress}
-use Rattle.step_tables.specs.Words.{is_empty}
 use Rattle.step_tables.specs.Limits.{newest}
 use Rattle.step_tables.specs.Text.{header_of}
 use Rattle.step_tables.specs.Sound.{within}
 use Rattle.step_tables.specs.Shapes.{Said}
-use Rattle.text_lines.specs.Lines.{is_line, at_line, line_taken, go_on, folded}
-use Rattle.step_tables.specs.Judging.{version_of, judge_header, first_fault, tests, may_come, with_line, judge_tested, judge_said, said_of, judge, scripts, script_read}
-use Rattle.step_tables.proofs.Back.{bytes_same}
+use Rattle.step_tables.specs.Judging.{version_of, judge_header, first_fault, tests, may_come, with_line, judge_tested, judge_said, said_of, judge}
+use Rattle.step_tables.proofs.Back.{bytes_same, IsBody}
 
--- the first line
-pub record IsHeader (n : ℕ) (line : List ℕ) (p q : Progress) : Type 0 where
-  pub first : n ≡ 1
-  pub version : ℕ
-  pub says : version_of line ≡ Some version
-  pub same : record p { version = version } ≡ q
-
--- what a later line says, which may come, has no fault, and is added
-pub record Adds (p : Progress) (said : Said) (q : Progress) : Type 0 where
-  pub comes : may_come p said ≡ true
-  pub good : first_fault (tests p said) ≡ None
-  pub added : with_line p said ≡ q
-
-pub record IsSaid (n : ℕ) (line : List ℕ) (p q : Progress) : Type 0 where
-  pub later : (n == 1) ≡ false
-  pub said : Said
-  pub says : said_of n line ≡ Some said
-  pub adds : Adds p said q
-
--- a line that was taken
-pub record IsTaken (n : ℕ) (line : List ℕ) (p q : Progress) : Type 0 where
+-- a line behind the settings that may come, and has no fault
+pub record Passes (p : Progress) (x : Said) : Type 0 where
   pub unended : p.ended ≡ false
-  pub what : IsHeader n line p q ⊎ IsSaid n line p q
+  pub body : IsBody x
+  pub comes : may_come p x ≡ true
+  pub good : first_fault (tests p x) ≡ None
+
+-- lines that pass, one after another
+abbrev pub Runs : Progress → List Said → Progress → Type 0
+Runs p [] q = p ≡ q
+Runs p (x ∷ xs) q = Passes p x × Runs (with_line p x) xs q
+
+pub runs_then : (p m q : Progress) (xs ys : List Said) → Runs p xs m → Runs m ys q → Runs p (xs ++ ys) q
+runs_then p m q [] ys r s = subst (λ k. Runs k ys q) (sym r) s
+runs_then p m q (x ∷ xs) ys r s = (r.0, runs_then (with_line p x) m q xs ys r.1 s)
 
 -- which way a choice went
-pub chose_other : {A : Type 0} (b : Bool) (x y z : A) → cond b x y ≡ z → (x ≡ z → ⊥) → (b ≡ false) × (y ≡ z)
-chose_other true x y z e not_so = absurd (not_so e)
-chose_other false x y z e not_so = (refl, e)
-
 pub chose_one : {A : Type 0} (b : Bool) (x y z : A) → cond b x y ≡ z → (y ≡ z → ⊥) → (b ≡ true) × (x ≡ z)
 chose_one true x y z e not_so = (refl, e)
 chose_one false x y z e not_so = absurd (not_so e)
@@ -57,13 +42,22 @@ unfolding judge_tested
 tested_back None p q e = (refl, cc)
 tested_back (Some kind) p q e = absurd (cc)
 
-said_back : (p q : Progress) (said : Option Said) → judge_said p said ≡ Ok q → (s : Said) × (said ≡ Some s) × Adds p s q
+-- what a good line says may come, has no fault, and is added
+pub said_back : (p q : Progress) (said : Option Said) → judge_said p said ≡ Ok q → (x : Said) × (said ≡ Some x) × (may_come p x ≡ true) × (first_fault (tests p x) ≡ None) × (with_line p x ≡ q)
 unfolding judge_said
 said_back p q None e = absurd (cc)
-said_back p q (Some s) e =
-    let (comes, tested) = chose_one (may_come p s) _ _ _ e (λ h. cc) in
+said_back p q (Some x) e =
+    let (comes, tested) = chose_one (may_come p x) _ _ _ e (λ h. cc) in
     let (good, added) = tested_back _ _ q tested in
-    (s, refl, record { comes = comes; good = good; added = added })
+    (x, refl, comes, good, added)
+
+-- a line behind the first is judged by what it says
+pub judged_later : (n : ℕ) (p : Progress) (line : List ℕ) → 1 < n → judge n p line ≡ judge_said p (said_of n line)
+unfolding judge
+judged_later n p line later = cond-false (n == 1) (judge_header p (version_of line)) (judge_said p (said_of n line)) (other n later)
+  where
+    other : (n : ℕ) → 1 < n → (n == 1) ≡ false
+    other n h = grind (arith, nat_tests)
 
 header_back : (p q : Progress) (said : Option ℕ) → judge_header p said ≡ Ok q → (v : ℕ) × (said ≡ Some v) × (record p { version = v } ≡ q)
 unfolding judge_header
@@ -71,7 +65,7 @@ header_back p q None e = absurd (cc)
 header_back p q (Some v) e = (v, refl, cc)
 
 -- what the first line is, by its version
-pub header_is : (line : List ℕ) (v : ℕ) → version_of line ≡ Some v → (line ≡ header_of v) × (within 1 newest v ≡ true)
+header_is : (line : List ℕ) (v : ℕ) → version_of line ≡ Some v → (line ≡ header_of v) × (within 1 newest v ≡ true)
 unfolding version_of header_of
 header_is line v e = elim (chose (bytes_eq line (codes "taskscript 1")) (Some 1) _ (Some v) e) [
   | inl h ↦ (let same : 1 ≡ v = cc in subst (λ (n : ℕ). (line ≡ header_of n) × (within 1 newest n ≡ true)) same (bytes_same line (codes "taskscript 1") h.0, refl))
@@ -80,31 +74,10 @@ header_is line v e = elim (chose (bytes_eq line (codes "taskscript 1")) (Some 1)
       subst (λ (n : ℕ). (line ≡ header_of n) × (within 1 newest n ≡ true)) same (bytes_same line (codes "taskscript 2") text, refl))
 ]
 
-judge_back : (n : ℕ) (line : List ℕ) (p q : Progress) → judge n p line ≡ Ok q → IsHeader n line p q ⊎ IsSaid n line p q
+-- the first line is that of a version
+pub first_back : (p q : Progress) (line : List ℕ) → judge 1 p line ≡ Ok q → (v : ℕ) × (line ≡ header_of v) × (within 1 newest v ≡ true) × (record p { version = v } ≡ q)
 unfolding judge
-judge_back n line p q e = elim (chose (n == 1) _ _ _ e) [
-  | inl h ↦ (let (version, says, same) = header_back p q (version_of line) h.1 in
-      inl (record { first = eqb-true n 1 h.0; version = version; says = says; same = same }))
-  | inr h ↦ (let (s, says, adds) = said_back p q (said_of n line) h.1 in inr (record { later = h.0; said = s; says = says; adds = adds }))
-]
-
-at_line_back : (n : ℕ) (r : Result Progress FaultKind) (q : Progress) → at_line n r ≡ Ok q → r ≡ Ok q
-at_line_back n (Ok p) q e = cc
-at_line_back n (Err kind) q e = absurd (cc)
-
-pub taken_back : (over : Option ℕ) (n : ℕ) (line : List ℕ) (p q : Progress) → line_taken scripts over n p line ≡ Ok q → IsTaken n line p q
-unfolding line_taken
-taken_back over n line p q e =
-    let (open_, more) = chose_other p.ended _ _ _ e (λ h. cc) in
-    let (short, verdict) = chose_other (is_line over n) _ _ _ more (λ h. cc) in
-    record { unended = open_; what = judge_back n line p q (at_line_back n _ q verdict) }
-
--- what the lines from number n on make
-abbrev pub judged : Option ℕ → ℕ → Progress → List (List ℕ) → Result Script ScriptFault
-judged over n p lines = script_read (folded scripts over n p lines)
-
--- the lines of a text, one at a time
-pub judged_more : (over : Option ℕ) (n : ℕ) (p q : Progress) (line : List ℕ) (lines : List (List ℕ)) → is_empty lines ≡ false → line_taken scripts over n p line ≡ Ok q → judged over n p (line ∷ lines) ≡ judged over (n + 1) q lines
-unfolding folded
-judged_more over n p q line [] some e = absurd (cc)
-judged_more over n p q line (next ∷ lines) some e = ap (λ r. script_read (go_on r (λ k. folded scripts over (n + 1) k (next ∷ lines)))) e
+first_back p q line e =
+    let (v, says, same) = header_back p q (version_of line) e in
+    let (is, few) = header_is line v says in
+    (v, is, few, same)

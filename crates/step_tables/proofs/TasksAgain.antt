@@ -1,26 +1,25 @@
 -- The task lines of a script in range pass.
 use Rattle.std.proofs.lemmas.Bool.{and_from, or_parts, or_from, lt-leb, ltb-true}
 use Rattle.std.proofs.Common.{◌≡◌, ℕ, suc, ◌+◌, ◌^◌, ◌≤◌, ◌<◌, Bool, true, false, cond, List, [], ◌∷◌, ◌++◌, map, length, refl, ap, sym, ◌∙◌, arith, subst, append_assoc, append-nil, length-append}
-use Rattle.std.specs.Prelude.{Some, None, ℤ, pos, negsuc, int_lt, is_none, bytes_eq, codes, ◌&&◌, ◌||◌, not, ◌==◌, nat_lt, nat_le, decimal, slice_get}
+use Rattle.std.specs.Prelude.{Some, None, ℤ, pos, negsuc, int_lt, is_none, bytes_eq, ◌&&◌, ◌||◌, not, ◌==◌, nat_lt, nat_le, decimal, slice_get}
 use Rattle.std.specs.List.{list_all, list_any, position_or_len}
 use Rattle.std.specs.Fmt.{signed_decimal}
 use Rattle.std.proofs.lemmas.Bool.Decides.{nat_tests}
 use Rattle.std.proofs.lemmas.List.{map-append, length-map}
-use Rattle.std.proofs.lemmas.List.Folds.{list_all-append}
 use Rattle.step_tables.specs.declared.faults.FaultKind.TheVariants as kinds
 use Rattle.step_tables.specs.Types.{Kind, Pinned, Shared, Tasklet, TaskDef, Event}
 use Rattle.step_tables.specs.declared.tables.Script.{Script}
 use Rattle.step_tables.specs.declared.progress.Progress.{Progress}
 use Rattle.step_tables.specs.Words.{Word, is_name}
-use Rattle.step_tables.specs.Shapes.{Place, pinned, shared, tasklet}
-use Rattle.step_tables.specs.Text.{init_words, place_words, task_word, said_words, place_said, task_said, names_of}
+use Rattle.step_tables.specs.Text.{place_said, task_said, names_of}
 use Rattle.step_tables.specs.Sound.{within, is_nice, is_sound_kind, is_sound_task, distinct_names}
 use Rattle.step_tables.specs.Limits.{limits_of, most_rows}
 use Rattle.step_tables.specs.Judging.{rows_made, value, signed_value, outside, outside_nice, place_no_number, place_outside, named, unknown, kind_of, task_of, with_task, with_line}
 use Rattle.step_tables.proofs.RowsOf.{first_of_both, second_of_both}
-use Rattle.step_tables.proofs.WordsAgain.{is_word, are_words, size, number_is_word, is_number, value_again, signed_is_word, is_signed, signed_value_again, name_is_word, class_is_word}
+use Rattle.step_tables.proofs.WordsAgain.{size, is_number, value_again, is_signed, signed_value_again}
 use Rattle.step_tables.proofs.Bounds.{within_outside, rows_small}
-use Rattle.step_tables.proofs.RunAgain.{Passes, Runs, no_kind}
+use Rattle.step_tables.proofs.Good.{no_kind}
+use Rattle.step_tables.proofs.Steps.{Passes, Runs}
 
 -- what is read so far, of a script's settings and these parts
 abbrev pub base : Script → List TaskDef → List ℕ → ℕ → List Event → Progress
@@ -81,29 +80,6 @@ kind_again workers (Pinned home nice) few e =
     λ i. Pinned (value_again home (home_small home workers (first_of_both _ _ e) few) i) (signed_value_again nice (nice_size nice (second_of_both (nat_lt home workers) _ e)) i)
 kind_again workers (Shared nice) few e = ap Shared (signed_value_again nice (nice_size nice e))
 kind_again workers (Tasklet home class) few e = ap (λ n. Tasklet n class) (value_again home (home_small home workers e few))
-
-init_are_words : (b : Bool) → are_words (init_words b) ≡ true
-init_are_words true = refl
-init_are_words false = refl
-
-place_are_words : (workers : ℕ) (kind : Kind) → workers < 10 ^ 10 → is_sound_kind workers kind ≡ true → are_words (place_words (place_said kind)) ≡ true
-unfolding place_said
-place_are_words workers (Pinned home nice) few e =
-    and_from true _ refl (and_from _ _ (number_is_word home (home_small home workers (first_of_both _ _ e) few)) (and_from true _ refl (and_from _ true (signed_is_word nice (nice_size nice (second_of_both (nat_lt home workers) _ e))) refl)))
-place_are_words workers (Shared nice) few e = and_from _ true (signed_is_word nice (nice_size nice e)) refl
-place_are_words workers (Tasklet home class) few e = and_from _ _ (number_is_word home (home_small home workers e few)) (and_from _ true (class_is_word class) refl)
-
-first_is_word : (place : Place) → is_word (task_word place) ≡ true
-first_is_word (pinned home nice) = refl
-first_is_word (shared nice) = refl
-first_is_word (tasklet home class) = refl
-
-pub task_words : (workers : ℕ) (t : TaskDef) (n : ℕ) → workers < 10 ^ 10 → is_name t.name ≡ true → is_sound_kind workers t.kind ≡ true → n < 10 ^ 10 → are_words (said_words (task_said t n)) ≡ true
-unfolding task_said
-task_words workers t n few name kind small =
-    and_from _ _ (first_is_word (place_said t.kind)) (and_from _ _ (name_is_word t.name name)
-    (list_all-append is_word (place_words (place_said t.kind)) (codes "rows" ∷ decimal n ∷ init_words t.init)
-    ∙ and_from _ _ (place_are_words workers t.kind few kind) (and_from _ _ (number_is_word n small) (init_are_words t.init))))
 
 -- a name that no task has
 fresh_name : (tasks : List TaskDef) (name : Word) → list_any (λ other. bytes_eq other name) (names_of tasks) ≡ false → unknown tasks name ≡ true
@@ -175,7 +151,6 @@ unfolding task_said
 task_passes s done t rest few name kind count small distinct room = record {
   unended = refl;
   body = name;
-  words = words_of_task;
   comes = and_from _ true (and_from true _ refl (ap (λ n. n == 0) (none_started done))) refl;
   good =
       no_kind _ kinds.Number _ (or_from (place_no_number (place_said t.kind)) _ (place_numbers s.workers t.kind few kind) (is_number (length t.rows) small))
@@ -186,9 +161,6 @@ task_passes s done t rest few name kind count small distinct room = record {
       (ap (nat_le (limits_of s.version).tasks) (length-map done bare) ∙ lt-leb (limits_of s.version).tasks (length done) room)))
       refl));
 }
-  where
-    words_of_task : are_words (said_words (task_said t (length t.rows))) ≡ true
-    words_of_task = task_words s.workers t (length t.rows) few name kind small
 
 -- the task lines pass, one after another
 pub tasks_run : (s : Script) (n : ℕ) (done rest : List TaskDef) → s.workers < 10 ^ 10 → list_all (is_sound_task s.workers n) rest ≡ true → distinct_names (names_of (done ++ rest)) ≡ true → length (done ++ rest) ≤ (limits_of s.version).tasks

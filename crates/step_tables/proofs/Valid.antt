@@ -15,9 +15,9 @@ use Rattle.step_tables.specs.Sound.{is_sound_action, distinct_names, rising_belo
 use Rattle.step_tables.specs.Limits.{limits_of}
 use Rattle.step_tables.specs.Judging.{may_come, all_rows, due, promised, rows_made, value, most, unknown, named, with_task, with_row, with_event, with_line, with_row_at_end, task_of, row_of, event_of, script_from}
 use Rattle.step_tables.proofs.Bounds.{AreSettings}
-use Rattle.step_tables.proofs.Back.{IsBody, AreOrders, IsOrder}
+use Rattle.step_tables.proofs.Back.{AreOrders, IsOrder}
 use Rattle.step_tables.proofs.Good.{GoodRow, good_row, GoodEvent, good_event, GoodTask, good_task}
-use Rattle.step_tables.proofs.Steps.{Adds}
+use Rattle.step_tables.proofs.Steps.{Passes, Runs}
 use Rattle.step_tables.proofs.RowsOf.{first_of_both, second_of_both, Fresh, Filled, filled_from_fresh, fresh_from_filled, fresh_more, filled_more, all_filled}
 use Rattle.step_tables.proofs.SoundParts.{sound_row, sound_task, sound_event}
 
@@ -179,14 +179,31 @@ valid_event p line is unended comes good v =
       done = λ ended. absurd (both_ways p.ended unended ended);
     }
 
+-- before the lines behind the settings
+pub valid_start : (p : Progress) → AreSettings p.version p.workers p.depth p.start p.step p.rounds → record p { tasks = []; counts = []; at = 0; events = []; ended = false } ≡ p → Valid p
+valid_start p settings bare = subst Valid bare (record {
+  settings = settings;
+  few = none_over (limits_of p.version).tasks;
+  tables = tt;
+  names = refl;
+  few_events = none_over (limits_of p.version).events;
+  actions = refl;
+  rising = refl;
+  whole = λ some. refl;
+  done = λ ended. refl;
+})
+  where
+    none_over : (high : ℕ) → nat_le 0 high ≡ true
+    none_over high = grind (arith, nat_tests)
+
 -- a line more
-pub valid_step : (p q : Progress) (said : Said) → IsBody said → p.ended ≡ false → Adds p said q → Valid p → Valid q
+pub valid_step : (p : Progress) (x : Said) → Passes p x → Valid p → Valid (with_line p x)
 unfolding with_line
-valid_step p q (sets setting w) body unended a v = absurd body
-valid_step p q (task line) body unended a v = subst Valid a.added (valid_task p line body unended a.comes (good_task p line a.good) v)
-valid_step p q (row line) body unended a v = subst Valid a.added (valid_row p line body.1 unended a.comes (good_row p line a.good) v)
-valid_step p q (event line) body unended a v = subst Valid a.added (valid_event p line body unended a.comes (good_event p line a.good) v)
-valid_step p q ends body unended a v = subst Valid a.added (record {
+valid_step p (sets setting w) a v = absurd a.body
+valid_step p (task line) a v = valid_task p line a.body a.unended a.comes (good_task p line a.good) v
+valid_step p (row line) a v = valid_row p line a.body.1 a.unended a.comes (good_row p line a.good) v
+valid_step p (event line) a v = valid_event p line a.body a.unended a.comes (good_event p line a.good) v
+valid_step p ends a v = record {
   settings = v.settings;
   few = v.few;
   tables = v.tables;
@@ -196,7 +213,11 @@ valid_step p q ends body unended a v = subst Valid a.added (record {
   rising = v.rising;
   whole = v.whole;
   done = λ ended. eqb-true p.at (length p.tasks) a.comes;
-})
+}
+
+pub valid_run : (p q : Progress) (xs : List Said) → Runs p xs q → Valid p → Valid q
+valid_run p q [] r v = subst Valid r v
+valid_run p q (x ∷ xs) r v = valid_run (with_line p x) q xs r.1 (valid_step p x r.0 v)
 
 -- the end
 pub valid_end : (p : Progress) → Valid p → p.ended ≡ true → is_sound (script_from p) ≡ true

@@ -90,10 +90,6 @@ some_bytes (b ∷ w) h = refl
 pub number_is_word : (n : ℕ) → n < 10 ^ 10 → is_word (decimal n) ≡ true
 number_is_word n h = and_from _ _ (some_bytes (decimal n) (decimal_nonempty n (omega arith))) (all_implied is_ascii_digit is_word_byte (decimal n) digit_is_word (own_digits n h))
 
-pub signed_is_word : (z : ℤ) → size z < 10 ^ 10 → is_word (signed_decimal z) ≡ true
-signed_is_word (pos n) h = number_is_word n h
-signed_is_word (negsuc n) h = second_of_both (not (is_empty (decimal (suc n)))) _ (number_is_word (suc n) h)
-
 -- names are words
 name_byte_is_word : (b : ℕ) → is_name_byte b ≡ true → is_word_byte b ≡ true
 name_byte_is_word b e = grind (arith, nat_tests)

@@ -1,5 +1,5 @@
 -- From the value of a word back to the word, and from words back to their line.
-use Rattle.std.proofs.Common.{◌≡◌, ℕ, suc, zero, false, List, [], ◌∷◌, refl, ap, sym, ◌∙◌, inl, inr, lit<}
+use Rattle.std.proofs.Common.{◌≡◌, ℕ, suc, zero, ◌<◌, ◌^◌, arith, false, List, [], ◌∷◌, refl, ap, sym, ◌∙◌, inl, inr, lit<}
 use Rattle.std.specs.Prelude.{Option, Some, None, option_map, is_none, unwrap_or, ◌==◌, decimal, ℤ, pos, negsuc}
 use Rattle.std.specs.List.{join_with_byte}
 use Rattle.std.specs.Fmt.{signed_decimal}
@@ -24,6 +24,14 @@ value_back w e = go (number_of w) refl e
     go : (o : Option ℕ) → number_of w ≡ o → is_none o ≡ false → w ≡ decimal (unwrap_or o 0)
     go None h f = absurd (cc)
     go (Some n) h f = number_back w n h
+
+pub value_small : (w : Word) → no_number w ≡ false → value w < 10 ^ 10
+unfolding no_number value
+value_small w e = go (number_of w) refl e
+  where
+    go : (o : Option ℕ) → number_of w ≡ o → is_none o ≡ false → unwrap_or o 0 < 10 ^ 10
+    go None h f = absurd (cc)
+    go (Some n) h f = let few = (numbers.number_back 9999999999 n w (lit< tt) h).1 in omega arith
 
 signed_back : (w : Word) (z : ℤ) → signed_of w ≡ Some z → w ≡ signed_decimal z
 unfolding signed
@@ -59,7 +67,3 @@ signed_value_back w e = go (signed_of w) refl e
 pub words_back : (line : List ℕ) (ws : List Word) → words_of line ≡ Some ws → line ≡ join_with_byte 32 ws
 unfolding words_of
 words_back line ws e = let (test, is) = only_some _ (pieces 32 line) ws e in sym (join_with_byte-slice_split 32 line) ∙ ap (join_with_byte 32) is
-
--- lines are what their text cuts into
-pub lines_back : (bytes : List ℕ) (lines : List (List ℕ)) → pieces 10 bytes ≡ lines → bytes ≡ join_with_byte 10 lines
-lines_back bytes lines e = sym (join_with_byte-slice_split 10 bytes) ∙ ap (join_with_byte 10) e

@@ -13,7 +13,7 @@ use Rattle.step_tables.specs.Faults.{number_of_kind}
 use Rattle.step_tables.specs.Limits.{newest, limits_of, most_rows, most_actions, most_delay}
 use Rattle.step_tables.specs.Words.{Word, ◌>>=◌, ◌is◌, pieces, is_empty, words_of, number_of, signed_of}
 use Rattle.step_tables.specs.Shapes as shapes
-use Rattle.step_tables.specs.Shapes.{Order, Delay, Place, TaskLine, RowLine, EventLine, Said, setting_line, body_line}
+use Rattle.step_tables.specs.Shapes.{Order, Delay, Place, TaskLine, RowLine, EventLine, Said, all_settings, setting_line, body_line}
 
 -- nothing is read so far
 abbrev pub nothing : Progress
@@ -275,7 +275,7 @@ judge_said p (Some said) = if may_come p said then judge_tested (first_fault (te
 
 -- the setting whose line this is
 unfoldable pub setting_at : ℕ → Option Setting
-setting_at line = slice_get (Workers ∷ Depth ∷ Start ∷ Step ∷ Rounds ∷ []) (line - 2)
+setting_at line = slice_get all_settings (line - 2)
 
 -- what the words say, in the line of a setting or after those
 unfoldable pub said_in : Option Setting → List Word → Option Said

@@ -58,6 +58,10 @@ setting_name Start = codes "start"
 setting_name Step = codes "step"
 setting_name Rounds = codes "rounds"
 
+-- all settings, in the order of their lines
+abbrev pub all_settings : List Setting
+all_settings = Workers ∷ Depth ∷ Start ∷ Step ∷ Rounds ∷ []
+
 -- the names of the classes, and the class at a place
 abbrev pub class_names : List Word
 class_names = codes "urgent" ∷ codes "normal" ∷ codes "bulk" ∷ codes "heavy" ∷ []

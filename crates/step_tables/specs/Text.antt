@@ -2,12 +2,12 @@
 use Rattle.std.specs.Prelude.{ℕ, ◌+◌, Bool, true, false, List, [], ◌∷◌, ◌++◌, map, length, codes, flat_map, decimal, slice_index_or, ◌==◌, if◌then◌else◌}
 use Rattle.std.specs.List.{join_with_byte}
 use Rattle.std.specs.Fmt.{signed_decimal}
-use Rattle.step_tables.specs.Types.{Class, Urgent, Normal, Bulk, Heavy, Action, Wake, Kill, Expiry, Keep, After, Never, Kind, Pinned, Shared, Tasklet, Row, TaskDef, Event, Workers, Depth, Start, Step, Rounds}
+use Rattle.step_tables.specs.Types.{Class, Urgent, Normal, Bulk, Heavy, Action, Wake, Kill, Expiry, Keep, After, Never, Kind, Pinned, Shared, Tasklet, Row, TaskDef, Event, Setting, Workers, Depth, Start, Step, Rounds}
 use Rattle.step_tables.specs.declared.tables.Script.{Script}
 pub use Rattle.text_lines.specs.Added.{spaced}
 unfoldable pub use Rattle.text_lines.specs.Reasons.{reasons_word as reasons_text}
 use Rattle.step_tables.specs.Words.{Word}
-use Rattle.step_tables.specs.Shapes.{Order, wakes, kills, Delay, keeps, after, never, Place, pinned, shared, tasklet, Said, sets, task, row, event, ends, setting_name}
+use Rattle.step_tables.specs.Shapes.{Order, wakes, kills, Delay, keeps, after, never, Place, pinned, shared, tasklet, Said, sets, task, row, event, ends, setting_name, all_settings}
 
 -- the name of a class
 abbrev pub class_name : Class → Word
@@ -94,9 +94,17 @@ event_said names e = event (record { round = decimal e.round; order = order_said
 abbrev pub names_of : List TaskDef → List Word
 names_of tasks = map (λ t. t.name) tasks
 
+-- the value of a setting
+abbrev pub setting_of : Script → Setting → ℕ
+setting_of s Workers = s.workers
+setting_of s Depth = s.depth
+setting_of s Start = s.start
+setting_of s Step = s.step
+setting_of s Rounds = s.rounds
+
 -- the lines of the settings
 abbrev pub settings_said : Script → List Said
-settings_said s = sets Workers (decimal s.workers) ∷ sets Depth (decimal s.depth) ∷ sets Start (decimal s.start) ∷ sets Step (decimal s.step) ∷ sets Rounds (decimal s.rounds) ∷ []
+settings_said s = map (λ k. sets k (decimal (setting_of s k))) all_settings
 
 -- the lines of the tasks, then those of their rows, then those of the events, then the last
 unfoldable pub body_said : List TaskDef → List Event → List Said

@@ -5,7 +5,7 @@ use Rattle.step_tables.specs.Words.{pieces}
 use Rattle.text_lines.specs.Pieces.{pieces_left}
 use Rattle.step_tables.specs.Judging.{script_read}
 use Rattle.step_tables.specs.Views.{Gives}
-use Rattle.step_tables.proofs.Head.{read_sound}
+use Rattle.step_tables.proofs.ReadBack.{read_sound}
 use Rattle.step_tables.proofs.LineLoop.{before_next, gives_fault, before_end}
 use Rattle.step_tables.proofs.reading.script_within.Goals as goal
 

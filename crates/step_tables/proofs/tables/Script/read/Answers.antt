@@ -5,7 +5,7 @@ use Rattle.step_tables.specs.declared.limits.Limits.{Limits}
 use Rattle.step_tables.specs.Limits.{limits_of}
 use Rattle.step_tables.specs.Judging.{script_of, script_within, most_bytes}
 use Rattle.step_tables.specs.Views.{Gives}
-use Rattle.step_tables.proofs.Head.{gives_sound}
+use Rattle.step_tables.proofs.ReadBack.{gives_sound}
 use Rattle.step_tables.proofs.tables.Script.read.Goals as goal
 
 pub returns-clause-same : goal.returns-clause-same
