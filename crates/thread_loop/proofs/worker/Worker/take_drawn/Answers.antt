@@ -1,13 +1,14 @@
-use Rattle.std.proofs.Common.{◌∙◌, inl, sym, ap, arith, subst}
+use Rattle.std.proofs.Common.{◌≡◌, ◌∙◌, Some, inl, sym, ap, arith, subst}
 use Rattle.task_machine.specs.declared.calls.Call.TheVariants as calls
 use Rattle.task_machine.specs.declared.calls.Reply.TheVariants as replies
 use Rattle.step_tables.specs.Nexts.{row_after}
 use Rattle.run_model.specs.Tables.{row_number}
 use Rattle.wake_board.specs.declared.body.Body.{Body}
-use Rattle.wake_board.specs.Seen.{Held}
-use Rattle.thread_loop.specs.Workers.{takes_of}
+use Rattle.wake_board.specs.Seen.{Held, Calls}
+use Rattle.turn_steps.specs.Left.{asked}
+use Rattle.thread_loop.specs.Workers.{takes_of, stage_of}
 use Rattle.thread_loop.specs.BoardTurns.{OnBoard, HasCalled, at_home}
-use Rattle.thread_loop.proofs.BoardTurns.{some-left, took-call, hears-drawn, tells-drawn, fewer-took, on-took, called-took, undrawn-took}
+use Rattle.thread_loop.proofs.BoardTurns.{Took, some-left, took-call, hears-drawn, tells-drawn, fewer-took, on-took, called-took, undrawn-took}
 use Rattle.thread_loop.proofs.BoardDraws.{rows-after, may-take-drawn, calls-home, asked-drawn, out-taken, back-home, taken-more}
 use Rattle.thread_loop.proofs.worker.Worker.take_drawn.Goals as goal
 
@@ -112,93 +113,32 @@ body_in-requires-clause-row g c =
     ∙ sym (rows-after s i.0 c.body_of-body.result.takes)
     ∙ ap (λ xs. row_after xs i.0 c.body_of-body.result.takes) (sym c.requires.nexts)
 
+asks : (g : _) (c : goal.After-body_in g) → asked c.args.script.now (stage_of c.args.script.now c.args.self.now) ≡ Some (calls.Take c.args.id)
+asks g c = asked-drawn c.args.script.now c.args.self.now c.args.pass.now c.args.id.0 c.requires.drawn
+
+made : (g : _) (c : goal.After-body_in g) → Calls (at_home c.args.pass.now) (calls.Take c.args.id) (replies.Task c.take.result) (at_home c.take.new.pass)
+made g c = calls-home c.args.pass.now c.take.new.pass (calls.Take c.args.id) (replies.Task c.take.result) c.take.ensures.calls
+
+took : (g : _) (c : goal.After-body_in g) → Took c.args.script.now (calls.Take c.args.id) (replies.Task c.take.result) c.args.self.now c.heard.new.self
+took g c =
+    took-call _ _ _ c.args.self.now c.note_call.new.self c.heard.new.self (asks g c) c.note_call.ensures.same c.note_call.ensures.entries c.note_call.ensures.room c.heard.ensures.log c.heard.ensures.stage c.heard.ensures.fits c.heard.ensures.number c.heard.ensures.tick c.heard.ensures.turns c.heard.ensures.takes c.heard.ensures.book
+
+home : (g : _) (c : goal.After-body_in g) → c.body_in.new.pass ≡ at_home c.take.new.pass
+home g c = back-home _ _ _ _ _ c.args.id _ c.requires.drawn c.take.ensures.calls c.body_in.ensures.back
+
 pub returns-clause-on : goal.returns-clause-on
 returns-clause-on g c =
-    let s = c.args.script.now in
-    let b = c.args.board.now in
-    let w = c.args.self.now in
-    let p = c.args.pass.now in
-    let i = c.args.id in
-    let d = c.requires.drawn in
-    let on = c.requires.on in
-    let asks = asked-drawn s w p i.0 d in
-    let q = c.take.new.pass in
-    let r = replies.Task c.take.result in
-    let v = c.note_call.new.self in
-    let u = c.heard.new.self in
-    let took = took-call s (calls.Take i) r w v u asks c.note_call.ensures.same c.note_call.ensures.entries c.note_call.ensures.room c.heard.ensures.log c.heard.ensures.stage c.heard.ensures.fits c.heard.ensures.number c.heard.ensures.tick c.heard.ensures.turns c.heard.ensures.takes c.heard.ensures.book in
-    let home = back-home s w p q c.body_in.new.pass i r d c.take.ensures.calls c.body_in.ensures.back in
-    let made = calls-home p q (calls.Take i) r c.take.ensures.calls in
-    subst (λ (y : Held). OnBoard s b u y) (sym home) (on-took s b w u (at_home p) (at_home q) (calls.Take i) r on (inl asks) made tt took)
+    subst (λ (y : Held). OnBoard c.args.script.now c.args.board.now c.heard.new.self y) (sym (home g c)) (on-took _ _ _ _ _ _ _ _ c.requires.on (inl (asks g c)) (made g c) tt (took g c))
 
 pub returns-clause-called : goal.returns-clause-called
 returns-clause-called g c =
-    let s = c.args.script.now in
-    let b = c.args.board.now in
-    let w = c.args.self.now in
-    let p = c.args.pass.now in
-    let i = c.args.id in
-    let d = c.requires.drawn in
-    let on = c.requires.on in
-    let asks = asked-drawn s w p i.0 d in
-    let q = c.take.new.pass in
-    let r = replies.Task c.take.result in
-    let v = c.note_call.new.self in
-    let u = c.heard.new.self in
-    let took = took-call s (calls.Take i) r w v u asks c.note_call.ensures.same c.note_call.ensures.entries c.note_call.ensures.room c.heard.ensures.log c.heard.ensures.stage c.heard.ensures.fits c.heard.ensures.number c.heard.ensures.tick c.heard.ensures.turns c.heard.ensures.takes c.heard.ensures.book in
-    let home = back-home s w p q c.body_in.new.pass i r d c.take.ensures.calls c.body_in.ensures.back in
-    let made = calls-home p q (calls.Take i) r c.take.ensures.calls in
-    subst (λ (y : Held). HasCalled s w (at_home p) u y) (sym home) (called-took s b w u (at_home p) (at_home q) (calls.Take i) r on (inl asks) made took)
+    subst (λ (y : Held). HasCalled c.args.script.now c.args.self.now (at_home c.args.pass.now) c.heard.new.self y) (sym (home g c)) (called-took _ c.args.board.now _ _ _ _ _ _ c.requires.on (inl (asks g c)) (made g c) (took g c))
 
 pub returns-clause-outs : goal.returns-clause-outs
-returns-clause-outs g c =
-    let s = c.args.script.now in
-    let b = c.args.board.now in
-    let w = c.args.self.now in
-    let p = c.args.pass.now in
-    let i = c.args.id in
-    let d = c.requires.drawn in
-    let on = c.requires.on in
-    let asks = asked-drawn s w p i.0 d in
-    let q = c.take.new.pass in
-    let r = replies.Task c.take.result in
-    let v = c.note_call.new.self in
-    let u = c.heard.new.self in
-    let took = took-call s (calls.Take i) r w v u asks c.note_call.ensures.same c.note_call.ensures.entries c.note_call.ensures.room c.heard.ensures.log c.heard.ensures.stage c.heard.ensures.fits c.heard.ensures.number c.heard.ensures.tick c.heard.ensures.turns c.heard.ensures.takes c.heard.ensures.book in
-    let home = back-home s w p q c.body_in.new.pass i r d c.take.ensures.calls c.body_in.ensures.back in
-    let made = calls-home p q (calls.Take i) r c.take.ensures.calls in
-    ap (λ (y : Held). y.outs) home
+returns-clause-outs g c = ap (λ (y : Held). y.outs) (home g c)
 
 pub returns-clause-undrawn : goal.returns-clause-undrawn
-returns-clause-undrawn g c =
-    let s = c.args.script.now in
-    let b = c.args.board.now in
-    let w = c.args.self.now in
-    let p = c.args.pass.now in
-    let i = c.args.id in
-    let d = c.requires.drawn in
-    let on = c.requires.on in
-    let asks = asked-drawn s w p i.0 d in
-    let q = c.take.new.pass in
-    let r = replies.Task c.take.result in
-    let v = c.note_call.new.self in
-    let u = c.heard.new.self in
-    let took = took-call s (calls.Take i) r w v u asks c.note_call.ensures.same c.note_call.ensures.entries c.note_call.ensures.room c.heard.ensures.log c.heard.ensures.stage c.heard.ensures.fits c.heard.ensures.number c.heard.ensures.tick c.heard.ensures.turns c.heard.ensures.takes c.heard.ensures.book in
-    λ j. undrawn-took s (calls.Take i) r w u j asks took
+returns-clause-undrawn g c j = undrawn-took _ (calls.Take c.args.id) _ c.args.self.now _ j (asks g c) (took g c)
 
 pub returns-clause-fewer : goal.returns-clause-fewer
-returns-clause-fewer g c =
-    let s = c.args.script.now in
-    let b = c.args.board.now in
-    let w = c.args.self.now in
-    let p = c.args.pass.now in
-    let i = c.args.id in
-    let d = c.requires.drawn in
-    let on = c.requires.on in
-    let asks = asked-drawn s w p i.0 d in
-    let q = c.take.new.pass in
-    let r = replies.Task c.take.result in
-    let v = c.note_call.new.self in
-    let u = c.heard.new.self in
-    let took = took-call s (calls.Take i) r w v u asks c.note_call.ensures.same c.note_call.ensures.entries c.note_call.ensures.room c.heard.ensures.log c.heard.ensures.stage c.heard.ensures.fits c.heard.ensures.number c.heard.ensures.tick c.heard.ensures.turns c.heard.ensures.takes c.heard.ensures.book in
-    fewer-took s (calls.Take i) r w u on.stage.sound (inl asks) took
+returns-clause-fewer g c = fewer-took _ (calls.Take c.args.id) _ _ _ c.requires.on.stage.sound (inl (asks g c)) (took g c)

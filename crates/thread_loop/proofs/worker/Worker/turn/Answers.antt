@@ -3,65 +3,33 @@ use Rattle.thread_loop.proofs.BoardTurns.{called-trans}
 use Rattle.thread_loop.proofs.BoardBegun.{IsBegun, on-begun, undrawn-begun, IsOver, number-over, tick-over, turn-over, grown-over, served-over, listed-over, own-over}
 use Rattle.thread_loop.proofs.worker.Worker.turn.Goals as goal
 
+begun : (g : _) (c : goal.After-make_calls-arg-2-1 g) → IsBegun c.args.script.now c.args.board.now c.args.now c.args.self.now c.begin_log.new.self c.args.pass.now
+begun g c = record {
+  fits = c.requires.fits;
+  later = c.begin_log.ensures.fits;
+  stage = c.begin_log.ensures.stage;
+  number = c.begin_log.ensures.number;
+  tick = c.begin_log.ensures.tick;
+  takes = c.begin_log.ensures.takes;
+  book = c.begin_log.ensures.book;
+  entries = c.begin_log.ensures.entries;
+  room = c.begin_log.ensures.room;
+  reserved = c.requires.reserved;
+  board = c.requires.board;
+  pass = c.requires.pass;
+  who = c.requires.number;
+  listed = c.requires.listed;
+  kept = c.requires.takes;
+  few_takes = c.requires.few_takes;
+  few_entries = c.requires.few_entries;
+  own = c.requires.own;
+}
+
 pub make_calls-requires-clause-on : goal.make_calls-requires-clause-on
-make_calls-requires-clause-on g c =
-    let s = c.args.script.now in
-    let b = c.args.board.now in
-    let T = c.args.now in
-    let w = c.args.self.now in
-    let v = c.begin_log.new.self in
-    let p = c.args.pass.now in
-    let begun : IsBegun s b T w v p = record {
-      fits = c.requires.fits;
-      later = c.begin_log.ensures.fits;
-      stage = c.begin_log.ensures.stage;
-      number = c.begin_log.ensures.number;
-      tick = c.begin_log.ensures.tick;
-      takes = c.begin_log.ensures.takes;
-      book = c.begin_log.ensures.book;
-      entries = c.begin_log.ensures.entries;
-      room = c.begin_log.ensures.room;
-      reserved = c.requires.reserved;
-      board = c.requires.board;
-      pass = c.requires.pass;
-      who = c.requires.number;
-      listed = c.requires.listed;
-      kept = c.requires.takes;
-      few_takes = c.requires.few_takes;
-      few_entries = c.requires.few_entries;
-      own = c.requires.own;
-    } in
-    on-begun s b T w v p begun
+make_calls-requires-clause-on g c = on-begun _ _ _ _ _ _ (begun g c)
 
 pub make_calls-requires-clause-undrawn : goal.make_calls-requires-clause-undrawn
-make_calls-requires-clause-undrawn g c =
-    let s = c.args.script.now in
-    let b = c.args.board.now in
-    let T = c.args.now in
-    let w = c.args.self.now in
-    let v = c.begin_log.new.self in
-    let p = c.args.pass.now in
-    let begun : IsBegun s b T w v p = record {
-      fits = c.requires.fits;
-      later = c.begin_log.ensures.fits;
-      stage = c.begin_log.ensures.stage;
-      number = c.begin_log.ensures.number;
-      tick = c.begin_log.ensures.tick;
-      takes = c.begin_log.ensures.takes;
-      book = c.begin_log.ensures.book;
-      entries = c.begin_log.ensures.entries;
-      room = c.begin_log.ensures.room;
-      reserved = c.requires.reserved;
-      board = c.requires.board;
-      pass = c.requires.pass;
-      who = c.requires.number;
-      listed = c.requires.listed;
-      kept = c.requires.takes;
-      few_takes = c.requires.few_takes;
-      few_entries = c.requires.few_entries;
-      own = c.requires.own;
-    } in
-    λ i. undrawn-begun s b T w v p i begun
+make_calls-requires-clause-undrawn g c i = undrawn-begun _ _ _ _ _ _ i (begun g c)
 
 pub make_draws-requires-clause-outs : goal.make_draws-requires-clause-outs
 make_draws-requires-clause-outs g c = c.make_calls.ensures.called.grown.outs ∙ c.requires.outs
