@@ -96,13 +96,15 @@ impl Arena {
         requires { index < length self.now.elements }
         ensures { result ≡ element_at self.now index }
     {
-        let entry = index as usize;
-        let label = self.labels[entry];
+        let label = self.labels[index as usize];
+        // Doubled before it is widened: then the compiled walk from leaf to leaf reads by the number of
+        // the link that it came by, and neither halves nor doubles it.
+        let first = (2 * index) as usize;
         Element {
-            left: self.halves[2 * entry].down.link(),
-            right: self.halves[2 * entry + 1].down.link(),
-            node_p: self.halves[2 * entry + 1].up.up(),
-            leaf_p: self.halves[2 * entry].up.up(),
+            left: self.halves[first].down.link(),
+            right: self.halves[first + 1].down.link(),
+            node_p: self.halves[first + 1].up.up(),
+            leaf_p: self.halves[first].up.up(),
             key: label.key,
             bit: label.bit,
         }

@@ -1,11 +1,14 @@
 use Rattle.std.proofs.Common.{◌∙◌, w16, arith, rules}
 use mir.Val.{SFits}
 use Rattle.std.proofs.lemmas.Int.{to_z-of_z}
-use Rattle.eb_arena.proofs.Halves.{counted, assembled, same_links}
+use Rattle.eb_arena.proofs.Halves.{counted, has_room, assembled, same_links}
 use Rattle.eb_arena.proofs.arena.Arena.element.Goals as goal
 
 pub index-label-requires : goal.index-label-requires
 index-label-requires c = omega (arith, c.requires, c.self.inside.labels.ok.0, counted _ _ _ c.args.self.now c.self.view_is)
+
+pub overflow_mul-first : goal.overflow_mul-first
+overflow_mul-first c = omega (arith, c.requires, has_room _ _ _ c.args.self.now c.self.view_is c.self.invariant)
 
 pub index-requires : goal.index-requires
 index-requires c = omega (arith, c.requires, c.self.inside.halves.ok.0, c.self.invariant.both, counted _ _ _ c.args.self.now c.self.view_is)
