@@ -47,7 +47,7 @@ pub fn descend<L: Ledger>(arena: &Arena, root: u32, key: u32, steps: &mut Steps<
     }
     while !part.is_leaf() {
         steps.tick();
-        let node = arena.element(part.index());
+        let node = arena.node(part);
         let Some(side) = turn(&node, key) else {
             return Some(part);
         };

@@ -1,7 +1,9 @@
 //! The arena: elements and roots, whose numbers are fixed when it is made.
 
-ghost use Rattle.std.specs.Prelude.{◌≡◌, ◌+◌, ◌<◌, length, replicate, IfOk};
+ghost use Rattle.std.specs.Prelude.{◌≡◌, ◌≢◌, ◌+◌, ◌<◌, false, length, replicate, IfOk};
 ghost use Rattle.eb_arena.specs.Parts.{element_at, link_at, unused, with_element, with_link};
+ghost use Rattle.eb_arena.specs.Links.{is_leaf, index_of};
+ghost use Rattle.eb_arena.specs.Halves.{bit_of};
 ghost use Rattle.eb_arena.specs.declared.links.Target.TheVariants as targets;
 
 use crate::element::Element;
@@ -26,11 +28,18 @@ impl Half {
     };
 }
 
-/// The key of a leaf and the bit of a node.
-#[derive(Clone, Copy, Debug)]
-pub(crate) struct Label {
-    key: u32,
-    bit: i16,
+/// The bit of a node, out of its mark: the lower half of the mark, with its sign.
+fn bit_in(mark: u32) -> i16
+    ensures { result ≡ bit_of mark }
+{
+    ((mark % 65536) as u16).cast_signed()
+}
+
+/// The mark of a node with this bit.
+fn mark_of(bit: i16) -> u32
+    ensures { bit_of result ≡ bit }
+{
+    u32::from(bit.cast_unsigned())
 }
 
 /// Elements and roots in fixed room. Contracts see the list of the elements and the list of what
@@ -40,8 +49,9 @@ pub struct Arena {
     /// The halves of the elements and, behind them, of the roots. A root is stored as a node of which
     /// only the left side is used.
     pub(crate) halves: Vec<Half>,
-    /// The key of each leaf and the bit of each node.
-    pub(crate) labels: Vec<Label>,
+    /// The marks of the elements: mark 2i is the key of leaf i, and mark 2i + 1 has the bit of node i.
+    /// So a link's number is the number of a mark, too.
+    pub(crate) marks: Vec<u32>,
     /// The number of roots.
     roots: u32,
 }
@@ -53,9 +63,9 @@ impl Model for Arena {
 
     ghost use Rattle.eb_arena.specs.Halves.{parts_of, Fits};
 
-    ghost view = { λ a. parts_of a.halves.items a.labels.items a.roots };
+    ghost view = { λ a. parts_of a.halves.items a.marks.items a.roots };
 
-    ghost invariant = { λ a. Fits a.halves.items a.labels.items a.roots };
+    ghost invariant = { λ a. Fits a.halves.items a.marks.items a.roots };
 }
 
 impl Arena {
@@ -67,10 +77,10 @@ impl Arena {
     {
         let nodes = (roots + entries) as usize;
         let halves = vec![in alloc; Half::UNUSED; 2 * nodes]?;
-        let labels = vec![in alloc; Label { key: 0, bit: 0 }; entries as usize]?;
+        let marks = vec![in alloc; 0u32; 2 * entries as usize]?;
         Ok(Arena {
             halves,
-            labels,
+            marks,
             roots,
         })
     }
@@ -80,7 +90,7 @@ impl Arena {
         ensures count { result ≡ length self.now.elements }
         ensures room { length self.now.links + length self.now.elements < 2147483647 }
     {
-        self.labels.len() as u32
+        (self.marks.len() / 2) as u32
     }
 
     /// The number of roots.
@@ -96,7 +106,7 @@ impl Arena {
         requires { index < length self.now.elements }
         ensures { result ≡ element_at self.now index }
     {
-        let label = self.labels[index as usize];
+        let key = self.marks[2 * index as usize];
         // Doubled before it is widened: then the compiled walk from leaf to leaf reads by the number of
         // the link that it came by, and neither halves nor doubles it.
         let first = (2 * index) as usize;
@@ -105,8 +115,27 @@ impl Arena {
             right: self.halves[first + 1].down.link(),
             node_p: self.halves[first + 1].up.up(),
             leaf_p: self.halves[first].up.up(),
-            key: label.key,
-            bit: label.bit,
+            key,
+            bit: bit_in(self.marks[first + 1]),
+        }
+    }
+
+    /// The element of the node that a link leads to. It is read by the number of the link, which the
+    /// way down neither halves nor doubles.
+    pub fn node(&self, node: Link) -> Element
+        requires some { node ≢ targets.Nothing }
+        requires inner { is_leaf node ≡ false }
+        requires exists { index_of node < length self.now.elements }
+        ensures { result ≡ element_at self.now (index_of node) }
+    {
+        let number = node.half();
+        Element {
+            left: self.halves[number - 1].down.link(),
+            right: self.halves[number].down.link(),
+            node_p: self.halves[number].up.up(),
+            leaf_p: self.halves[number - 1].up.up(),
+            key: self.marks[number - 1],
+            bit: bit_in(self.marks[number]),
         }
     }
 
@@ -135,7 +164,7 @@ impl Arena {
             down: element.right.stored(),
             up: element.node_p.stored(),
         };
-        self.labels[entry].bit = element.bit;
+        self.marks[2 * entry + 1] = mark_of(element.bit);
     }
 
     /// Writes the key of an entry, and nothing else.
@@ -143,7 +172,7 @@ impl Arena {
         requires { entry < length self.old.elements }
         ensures { self.new ≡ with_element self.old entry (record (element_at self.old entry) { key = key }) }
     {
-        self.labels[entry as usize].key = key;
+        self.marks[2 * entry as usize] = key;
     }
 
     /// What hangs on a root.
@@ -151,8 +180,7 @@ impl Arena {
         requires { root < length self.now.links }
         ensures { result ≡ link_at self.now root }
     {
-        let node = self.labels.len() + root as usize;
-        self.halves[2 * node].down.link()
+        self.halves[self.marks.len() + 2 * root as usize].down.link()
     }
 
     /// Hangs a part, or nothing, on a root.
@@ -160,7 +188,7 @@ impl Arena {
         requires { root < length self.old.links }
         ensures { self.new ≡ with_link self.old root link }
     {
-        let node = self.labels.len() + root as usize;
-        self.halves[2 * node].down = link.stored();
+        let half = self.marks.len() + 2 * root as usize;
+        self.halves[half].down = link.stored();
     }
 }

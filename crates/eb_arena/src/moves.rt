@@ -42,7 +42,7 @@ impl Arena {
         requires { place ≢ places.Nowhere }
         ensures { result ≡ nat_lt (place_index place) (length self.now.elements) }
     {
-        place.half() < 2 * self.labels.len()
+        place.half() < self.marks.len()
     }
 
     /// Where the node that a place is at hangs.
