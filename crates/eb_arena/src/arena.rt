@@ -180,7 +180,9 @@ impl Arena {
         requires { root < length self.now.links }
         ensures { result ≡ link_at self.now root }
     {
-        self.halves[self.marks.len() + 2 * root as usize].down.link()
+        self.halves[self.marks.len() + 2 * root as usize]
+            .down
+            .link()
     }
 
     /// Hangs a part, or nothing, on a root.

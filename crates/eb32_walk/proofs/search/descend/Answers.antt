@@ -12,25 +12,25 @@ pub loop-steps-init : goal.loop-steps-init
 loop-steps-init g c =
     descends_start c.args.arena.now c.args.root c.args.key _ c.root-part.result c.requires.shape c.requires.exists c.root-part.ensures (something_is _ _ c.is_none.ensures c.if-is_none.false)
 
-pub node-requires-clause-some : goal.node-requires-clause-some
-node-requires-clause-some g c = narrow_some _ _ _ _ c.loop-steps.invariant.narrow
+pub node-node-requires-clause-some : goal.node-node-requires-clause-some
+node-node-requires-clause-some g c = narrow_some _ _ _ _ c.loop-steps.invariant.narrow
 
-pub node-requires-clause-exists : goal.node-requires-clause-exists
-node-requires-clause-exists g c = (node_has _ _ _ _ _ c.loop-steps.invariant.narrow (node_is _ _ _ (narrow_some _ _ _ _ c.loop-steps.invariant.narrow) c.is_leaf.ensures c.loop-steps-test.true refl)).fits
+pub node-node-requires-clause-exists : goal.node-node-requires-clause-exists
+node-node-requires-clause-exists g c = (node_has _ _ _ _ _ c.loop-steps.invariant.narrow (node_is _ _ _ (narrow_some _ _ _ _ c.loop-steps.invariant.narrow) c.is_leaf.ensures c.loop-steps-test.true refl)).fits
 
 pub turn-requires : goal.turn-requires
 turn-requires g c =
-    subst IsBit (sym (ap (λ e. e.bit) c.node.ensures)) (node_has _ _ _ _ _ c.loop-steps.invariant.narrow (node_is _ _ _ (narrow_some _ _ _ _ c.loop-steps.invariant.narrow) c.is_leaf.ensures c.loop-steps-test.true refl)).bit
+    subst IsBit (sym (ap (λ e. e.bit) c.node-node.ensures)) (node_has _ _ _ _ _ c.loop-steps.invariant.narrow (node_is _ _ _ (narrow_some _ _ _ _ c.loop-steps.invariant.narrow) c.is_leaf.ensures c.loop-steps-test.true refl)).bit
 
 pub returns-in_default : goal.returns-in_default
 returns-in_default g c =
-    reaches _ _ _ _ _ _ _ c.loop-steps.invariant (stops_node c.args.arena.now c.args.key _ _ _ (node_is _ _ _ (narrow_some _ _ _ _ c.loop-steps.invariant.narrow) c.is_leaf.ensures c.loop-steps-test.true refl) c.node.ensures (sym c.in_default.is ∙ c.turn.ensures)) c.tick.ensures
+    reaches _ _ _ _ _ _ _ c.loop-steps.invariant (stops_node c.args.arena.now c.args.key _ _ _ (node_is _ _ _ (narrow_some _ _ _ _ c.loop-steps.invariant.narrow) c.is_leaf.ensures c.loop-steps-test.true refl) c.node-node.ensures (sym c.in_default.is ∙ c.turn.ensures)) c.tick.ensures
 
 pub loop-steps-smaller : goal.loop-steps-smaller
-loop-steps-smaller g c = (narrow_turn _ _ _ _ _ _ _ _ c.loop-steps.invariant.narrow (node_is _ _ _ (narrow_some _ _ _ _ c.loop-steps.invariant.narrow) c.is_leaf.ensures c.loop-steps-test.true refl) c.node.ensures (sym c.in-Some.is ∙ c.turn.ensures) c.child-part.ensures).falls
+loop-steps-smaller g c = (narrow_turn _ _ _ _ _ _ _ _ c.loop-steps.invariant.narrow (node_is _ _ _ (narrow_some _ _ _ _ c.loop-steps.invariant.narrow) c.is_leaf.ensures c.loop-steps-test.true refl) c.node-node.ensures (sym c.in-Some.is ∙ c.turn.ensures) c.child-part.ensures).falls
 
 pub loop-steps-preserved : goal.loop-steps-preserved
-loop-steps-preserved g c = descends_turn _ _ _ _ _ _ _ _ _ _ _ c.loop-steps.invariant (node_is _ _ _ (narrow_some _ _ _ _ c.loop-steps.invariant.narrow) c.is_leaf.ensures c.loop-steps-test.true refl) c.node.ensures (sym c.in-Some.is ∙ c.turn.ensures) c.child-part.ensures c.tick.ensures
+loop-steps-preserved g c = descends_turn _ _ _ _ _ _ _ _ _ _ _ c.loop-steps.invariant (node_is _ _ _ (narrow_some _ _ _ _ c.loop-steps.invariant.narrow) c.is_leaf.ensures c.loop-steps-test.true refl) c.node-node.ensures (sym c.in-Some.is ∙ c.turn.ensures) c.child-part.ensures c.tick.ensures
 
 pub returns : goal.returns
 returns g c = reaches _ _ _ _ _ _ _ c.loop-steps.invariant (stops_leaf c.args.arena.now c.args.key _ (narrow_some _ _ _ _ c.loop-steps.invariant.narrow) (leaf_is_no_node _ _ c.is_leaf.ensures c.loop-steps-test.false)) c.tick-2.ensures
