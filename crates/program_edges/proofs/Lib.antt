@@ -1,1 +1,2 @@
+pub mod InputParts
 pub mod Joined

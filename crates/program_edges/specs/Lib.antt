@@ -1,1 +1,3 @@
+pub mod ErrorLines
+pub mod Inputs
 pub mod Texts
