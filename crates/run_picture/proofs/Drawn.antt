@@ -4,7 +4,7 @@ use Rattle.std.proofs.lemmas.List.{take-append-drop}
 use Rattle.text_lines.specs.Added.{Kept}
 use Rattle.std.proofs.lemmas.Grind.{flat_map-append}
 use Rattle.run_picture.specs.declared.bars.Bar.{Bar}
-use Rattle.run_picture.specs.Drawing.{DrawsBar, DrawsEach, Draws, Adds, AddsEach, bar_begin, joined}
+use Rattle.run_picture.specs.Drawing.{DrawsBar, DrawsEach, Draws, Adds, AddsEach, bar_begin, tip_text, joined}
 
 -- one bar more
 each_more : (bars : List Bar) (pieces : List (List ℕ)) (bar : Bar) (piece : List ℕ) → DrawsEach bars pieces → DrawsBar bar piece → DrawsEach (bars ++ bar ∷ []) (pieces ++ piece ∷ [])
@@ -27,11 +27,13 @@ adds_more bars bar before mid after all one =
 kept_parts : (mid new : List ℕ) → Kept mid new → new ≡ mid ++ drop (length mid) new
 kept_parts mid new kept = sym (take-append-drop (length mid) new) ∙ ap (λ t. t ++ drop (length mid) new) kept.front
 
--- a bar that was begun, and whatever was written behind that
-pub adds_begun : (bar : Bar) (x : ℕ) (old mid new : List ℕ) → mid ≡ old ++ bar_begin bar x → Kept mid new → Adds bar old new
-adds_begun bar x old mid new begun kept =
-    let rest = drop (length mid) new in
-    (bar_begin bar x ++ rest, kept_parts mid new kept ∙ ap (λ t. t ++ rest) begun ∙ append_assoc old (bar_begin bar x) rest, (x, rest, refl))
+-- a bar that was begun, a name, the bar's tip, and whatever was written behind that
+pub adds_told : (bar : Bar) (x : ℕ) (old begun named told new : List ℕ) → begun ≡ old ++ bar_begin bar x → Kept begun named → told ≡ named ++ tip_text bar → Kept told new → Adds bar old new
+adds_told bar x old begun named told new begins name tip kept =
+    let tag = drop (length begun) named in
+    let rest = drop (length told) new in
+    let more = tip_text bar ++ rest in
+    (bar_begin bar x ++ (tag ++ more), kept_parts told new kept ∙ ap (λ t. t ++ rest) tip ∙ append_assoc named (tip_text bar) rest ∙ ap (λ t. t ++ more) (kept_parts begun named name) ∙ append_assoc begun tag more ∙ ap (λ t. t ++ (tag ++ more)) begins ∙ append_assoc old (bar_begin bar x) (tag ++ more), (x, tag, rest, refl))
 
 -- bars that were drawn behind a front, and whatever was written behind them
 pub draws_between : (bars : List Bar) (front mid new : List ℕ) → AddsEach bars front mid → Kept mid new → Draws bars new

@@ -1,10 +1,9 @@
 -- What each answer says (docs/PICTURES.md, "Answers").
-use Rattle.std.specs.Prelude.{◌≡◌, ℕ, Bool, true, false, List, ◌++◌, codes, decimal, Option, Some, None, Result, Ok, Err, Vec}
+use Rattle.std.specs.Prelude.{◌≡◌, ℕ, false, List, Option, Some, None, Result, Ok, Err, Vec}
 use Rattle.std.specs.declared.alloc.Global.{Global}
 use Rattle.sched_base.specs.Streams.{Appends, AppendsFront}
 use Rattle.run_picture.specs.declared.requests.Request.{Request}
 use Rattle.run_picture.specs.declared.inputs.Refusal.{Refusal}
-use Rattle.run_picture.specs.declared.inputs.Refusal.TheVariants.{Script, Transcript}
 use Rattle.run_picture.specs.declared.inputs.InputError.{InputError}
 use Rattle.run_picture.specs.declared.inputs.InputError.TheVariants as errors
 use Rattle.run_picture.specs.declared.status.Status.{Status}
@@ -21,6 +20,11 @@ IsPicture request told text = request.is_text ≡ false → Draws (bars_of reque
 abbrev pub Shows : Option Request → Result Told Refusal → (List ℕ → Type 0) → Type 0
 Shows asked told P = (request : Request) × (input : Told) × (text : List ℕ) × (asked ≡ Some request) × (told ≡ Ok input) × IsPicture request input text × P text
 
+-- something is asked for
+abbrev pub IsAsked : Option Request → Type 0
+IsAsked None = ⊥
+IsAsked (Some request) = Unit {0}
+
 -- what an answer says of the words, of the input, and of what the sink held before and holds after
 abbrev pub Answers : Option Request → Result Told Refusal → Option (List ℕ) → Option (List ℕ) → Status → Type 0
 Answers asked told before after Done = Shows asked told (λ text. Appends before after text)
@@ -28,7 +32,7 @@ Answers asked told before after Usage = (asked ≡ None) × (after ≡ before)
 Answers asked told before after ReadFault = after ≡ before
 Answers asked told before after WriteFault = Shows asked told (λ text. AppendsFront before after text)
 Answers asked told before after NoMemory = after ≡ before
-Answers asked told before after (Refused refusal) = (told ≡ Err refusal) × (after ≡ before)
+Answers asked told before after (Refused refusal) = IsAsked asked × (told ≡ Err refusal) × (after ≡ before)
 
 -- an answer that comes once the input is read
 abbrev pub IsRunning : Status → Type 0
@@ -54,19 +58,25 @@ IsUnwritten WriteFault = ⊥
 IsUnwritten NoMemory = Unit {0}
 IsUnwritten (Refused refusal) = Unit {0}
 
--- the line that names a refusal: where, and by the name of the fault
-abbrev pub names_refusal : Refusal → List ℕ → List ℕ
-names_refusal (Script fault) name = codes "script: line " ++ (decimal fault.line ++ (codes ": " ++ (name ++ codes "\n")))
-names_refusal (Transcript fault) name = codes "transcript: line " ++ (decimal fault.line ++ (codes ": " ++ (name ++ codes "\n")))
+-- usage, or want of memory
+abbrev pub IsUsage : Status → Type 0
+IsUsage Done = ⊥
+IsUsage Usage = Unit {0}
+IsUsage ReadFault = ⊥
+IsUsage WriteFault = ⊥
+IsUsage NoMemory = Unit {0}
+IsUsage (Refused refusal) = ⊥
 
-abbrev pub NamesIt : Refusal → List ℕ → Type 0
-NamesIt refusal line = (name : List ℕ) × (line ≡ names_refusal refusal name)
+-- an answer to words that ask for something
+abbrev pub IsOfRequest : Status → Type 0
+IsOfRequest Done = Unit {0}
+IsOfRequest Usage = ⊥
+IsOfRequest ReadFault = Unit {0}
+IsOfRequest WriteFault = Unit {0}
+IsOfRequest NoMemory = Unit {0}
+IsOfRequest (Refused refusal) = Unit {0}
 
--- what is told of an answer: its line, or a first part of it where that could not be written whole
-abbrev pub Complains : Status → Option (List ℕ) → Option (List ℕ) → Type 0
-Complains Done before after = after ≡ before
-Complains Usage before after = AppendsFront before after (codes "usage: taskpicture [--from R] [--to R] [--text]\n")
-Complains ReadFault before after = AppendsFront before after (codes "read fault\n")
-Complains WriteFault before after = AppendsFront before after (codes "write fault\n")
-Complains NoMemory before after = AppendsFront before after (codes "want of memory\n")
-Complains (Refused refusal) before after = (name : List ℕ) × AppendsFront before after (names_refusal refusal name)
+-- the answers that words may have; Usage comes exactly where they ask for nothing
+abbrev pub IsAmong : Option Request → Status → Type 0
+IsAmong None status = IsUsage status
+IsAmong (Some request) status = IsOfRequest status

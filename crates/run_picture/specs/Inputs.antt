@@ -10,6 +10,7 @@ use Rattle.transcript.specs.declared.faults.TextFault.{TextFault}
 use Rattle.transcript.specs.declared.faults.TextError.{TextError}
 use Rattle.transcript.specs.declared.faults.TextError.TheVariants as text
 use Rattle.transcript.specs.Judging.{run_of}
+use Rattle.program_edges.specs.Inputs.{script_part, transcript_part}
 use Rattle.run_picture.specs.declared.inputs.Refusal.{Refusal}
 use Rattle.run_picture.specs.declared.inputs.Refusal.TheVariants as refusals
 use Rattle.run_picture.specs.declared.inputs.InputError.{InputError}
@@ -29,12 +30,6 @@ begins front bytes = bytes_eq (take (length front) bytes) front
 abbrev pub has_script : List ℕ → Bool
 has_script bytes = begins (codes "taskscript ") bytes
 
--- how long the script is in front of a transcript: up to the end of the first line `end` behind another line, and else
--- the whole text
-abbrev pub script_length : List ℕ → ℕ
-script_length [] = 0
-script_length (b ∷ bs) = if begins (codes "\nend\n") (b ∷ bs) then 5 else script_length bs + 1
-
 -- a script's first fault comes before any of its transcript
 abbrev pub told_by : Option Script → Result (List Line) TextFault → Result Told Refusal
 told_by s (Ok ls) = Ok (record { script = s; lines = ls })
@@ -47,7 +42,7 @@ told_behind (Err fault) lines = Err (refusals.Script fault)
 -- what the bytes tell, or why they are refused
 abbrev pub input_of : List ℕ → Result Told Refusal
 input_of bytes =
-    if has_script bytes then told_behind (script_of (take (script_length bytes) bytes)) (run_of (drop (script_length bytes) bytes))
+    if has_script bytes then told_behind (script_of (script_part bytes)) (run_of (transcript_part bytes))
     else told_by None (run_of bytes)
 
 -- an answer that may want memory

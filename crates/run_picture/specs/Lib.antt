@@ -8,4 +8,5 @@ pub mod Inputs
 pub mod Requests
 pub mod Codes
 pub mod Answers
+pub mod ErrorLines
 pub mod Laws

@@ -4,10 +4,12 @@ ghost use Rattle.std.specs.Prelude.{◌≡◌, ◌≢◌, ◌⊎◌, drop, map, 
 ghost use Rattle.std.specs.IoError.{error_kind};
 ghost use Rattle.std.specs.String.{string_bytes};
 ghost use Rattle.std.specs.Vec.Iter.{into_iter_items};
-ghost use Rattle.sched_base.specs.Streams.{Rose};
+ghost use Rattle.sched_base.specs.Streams.{Appends, AppendsFront, Rose};
+ghost use Rattle.program_edges.specs.Texts.{ReadsAtMost};
 ghost use Rattle.run_picture.specs.Requests.{request_of};
 ghost use Rattle.run_picture.specs.Inputs.{input_of};
-ghost use Rattle.run_picture.specs.Answers.{Answers, Complains};
+ghost use Rattle.run_picture.specs.Answers.{Answers, IsAmong, IsUnwritten};
+ghost use Rattle.run_picture.specs.ErrorLines.{error_line};
 
 use crate::complaints::complain;
 use crate::status::Status;
@@ -19,6 +21,7 @@ use std::env::Args;
 use std::io::{self, ErrorKind};
 
 /// Draws as the arguments of the process ask.
+#[tactic(auto, using(crate::proofs::Answered::among_memory))]
 pub fn answer<S: Source, O: Sink, E: Sink>(
     alloc: Global,
     args: io::Result<Args>,
@@ -32,27 +35,35 @@ pub fn answer<S: Source, O: Sink, E: Sink>(
     ensures no_memory { IfErr args (λ e. error_kind e ≡ ErrorKind.OutOfMemory → result ≡ Status.NoMemory) }
     // Usage is the answer to all words that are no command, unless there is no memory for them.
     ensures usage { IfOk args (λ all. result ≡ Status.Usage → request_of (map (λ word. string_bytes word) (drop 1 (into_iter_items all))) ≡ None) }
+    ensures among { IfOk args (λ all. IsAmong (request_of (map (λ word. string_bytes word) (drop 1 (into_iter_items all)))) result) }
+    ensures unasked { IfOk args (λ all. request_of (map (λ word. string_bytes word) (drop 1 (into_iter_items all))) ≡ None → src.new ≡ src.old) }
+    ensures unread { result ≡ Status.Usage → src.new ≡ src.old }
+    ensures untouched { IfErr args (λ _. (src.new ≡ src.old) × (out.new ≡ out.old)) }
+    ensures few { ReadsAtMost 71303169 (S.left src.old) (S.left src.new) }
+    ensures unwritten { IsUnwritten result → out.new ≡ out.old }
     ensures read_fault { result ≡ Status.ReadFault → Rose (S.faults src.old) (S.faults src.new) }
     ensures write_fault { result ≡ Status.WriteFault → Rose (O.faults out.old) (O.faults out.new) }
-    ensures told { Complains result (E.held err.old) (E.held err.new) }
+    // The answer's line is told, or a first part of it where that failed; Done has none.
+    ensures told { ¬ Rose (E.faults err.old) (E.faults err.new) → Appends (E.held err.old) (E.held err.new) (error_line result) }
+    ensures begun { AppendsFront (E.held err.old) (E.held err.new) (error_line result) }
+    ensures silent { result ≡ Status.Done → err.new ≡ err.old }
 {
     match args {
         Ok(args) => match behind_first(alloc, args) {
             Ok(words) => taskpicture(alloc, &words, src, out, err),
-            Err(_) => end(alloc, err, Status::NoMemory),
+            Err(_) => end(err, Status::NoMemory),
         },
-        Err(error) if error.kind() == ErrorKind::OutOfMemory => {
-            end(alloc, err, Status::NoMemory)
-        }
-        Err(_) => end(alloc, err, Status::Usage),
+        Err(error) if error.kind() == ErrorKind::OutOfMemory => { end(err, Status::NoMemory) }
+        Err(_) => end(err, Status::Usage),
     }
 }
 
 /// Tells of an answer.
-fn end<E: Sink>(alloc: Global, err: &mut E, status: Status) -> Status
+fn end<E: Sink>(err: &mut E, status: Status) -> Status
     ensures same { result ≡ status }
-    ensures told { Complains result (E.held err.old) (E.held err.new) }
+    ensures told { ¬ Rose (E.faults err.old) (E.faults err.new) → Appends (E.held err.old) (E.held err.new) (error_line result) }
+    ensures begun { AppendsFront (E.held err.old) (E.held err.new) (error_line result) }
 {
-    complain(alloc, err, &status);
+    complain(err, &status);
     status
 }

@@ -2,7 +2,7 @@
 
 ghost use Rattle.std.specs.Prelude.{◌≡◌, ◌++◌, OnOk, IfOk};
 ghost use Rattle.text_lines.specs.Added.{Kept};
-ghost use Rattle.run_picture.specs.Drawing.{bar_begin, Draws, Adds, AddsEach};
+ghost use Rattle.run_picture.specs.Drawing.{bar_begin, take_text, spot_text, raised_text, end_text, tip_text, Draws, Adds, AddsEach};
 
 use crate::bars::{Bar, Spot};
 use crate::columns::Board;
@@ -72,7 +72,8 @@ fn put_bar(out: &mut Vec<u8>, scene: &Scene<'_>, bar: &Bar) -> Result<(), AllocE
 {
     let x = scene.layout.left_of(&bar.spot);
     begin_bar(out, bar, x)?;
-    put_tip(out, scene, bar)?;
+    put_name(out, scene, bar)?;
+    put_tip(out, bar)?;
     let width = scene.layout.unit.saturating_mul(bar.entries).max(2) - 1;
     put_body(out, bar, width)?;
     put_words(out, scene, bar, width)?;
@@ -99,8 +100,8 @@ fn begin_bar(out: &mut Vec<u8>, bar: &Bar, x: u64) -> Result<(), AllocError>
     )
 }
 
-/// Appends the rest of a bar's tip.
-fn put_tip(out: &mut Vec<u8>, scene: &Scene<'_>, bar: &Bar) -> Result<(), AllocError>
+/// Appends the name of a bar's task, where it has one.
+fn put_name(out: &mut Vec<u8>, scene: &Scene<'_>, bar: &Bar) -> Result<(), AllocError>
     ensures { Kept out.old.items out.new.items }
 {
     let label = Label::of(scene.script, bar.task);
@@ -108,35 +109,73 @@ fn put_tip(out: &mut Vec<u8>, scene: &Scene<'_>, bar: &Bar) -> Result<(), AllocE
         put_bytes(out, b" ")?;
         label.put(out)?;
     }
+    Ok(())
+}
+
+/// Appends the rest of a bar's tip: which take of its task it is and why, where it stands, and what raised it.
+#[tactic(auto, unfolding(crate::specs::Drawing::tip_text))]
+fn put_tip(out: &mut Vec<u8>, bar: &Bar) -> Result<(), AllocError>
+    ensures kept { Kept out.old.items out.new.items }
+    ensures written { OnOk result (out.new.items ≡ out.old.items ++ tip_text bar.now) }
+{
+    put_take(out, bar.takes)?;
+    put_cause(out, bar)?;
+    put_spot(out, &bar.spot)?;
+    put_raise(out, bar.raised)?;
+    put_bytes(out, tip_end(bar.is_retired))
+}
+
+/// Appends which take of its task a bar is, of which so many were before.
+fn put_take(out: &mut Vec<u8>, takes: u64) -> Result<(), AllocError>
+    ensures kept { Kept out.old.items out.new.items }
+    ensures written { OnOk result (out.new.items ≡ out.old.items ++ take_text takes) }
+{
     put(
         out,
         &[
             Text(b": take "),
-            Number(bar.takes.saturating_add(1)),
+            Number(takes.saturating_add(1)),
             Text(b" for "),
         ],
-    )?;
-    put_cause(out, bar)?;
+    )
+}
+
+/// Appends where a bar stands.
+fn put_spot(out: &mut Vec<u8>, spot: &Spot) -> Result<(), AllocError>
+    ensures kept { Kept out.old.items out.new.items }
+    ensures written { OnOk result (out.new.items ≡ out.old.items ++ spot_text spot.now) }
+{
     put(
         out,
         &[
             Text(b", round "),
-            Number(u64::from(bar.spot.round)),
+            Number(u64::from(spot.round)),
             Text(b", line "),
-            Number(bar.spot.line),
+            Number(spot.line),
         ],
-    )?;
-    if let Some(from) = bar.raised {
-        put(out, &[Text(b", raised in line "), Number(from.line)])?;
-    }
-    put_bytes(
-        out,
-        if bar.is_retired {
-            b", retired</title>".as_slice()
-        } else {
-            b"</title>".as_slice()
-        },
     )
+}
+
+/// Appends in which line a bar's task was raised, if in any.
+fn put_raise(out: &mut Vec<u8>, raised: Option<Spot>) -> Result<(), AllocError>
+    ensures kept { Kept out.old.items out.new.items }
+    ensures written { OnOk result (out.new.items ≡ out.old.items ++ raised_text raised) }
+{
+    match raised {
+        Some(from) => put(out, &[Text(b", raised in line "), Number(from.line)]),
+        None => Ok(()),
+    }
+}
+
+/// The end of a bar's tip.
+fn tip_end(is_retired: bool) -> &'static [u8]
+    ensures { result.now ≡ end_text is_retired }
+{
+    if is_retired {
+        b", retired</title>"
+    } else {
+        b"</title>"
+    }
 }
 
 /// Appends the body of a bar: a box in the colour of its first reason, a strip for each further one, and a

@@ -1,8 +1,9 @@
 //! The input: a transcript, or a script and then its transcript.
 
-ghost use Rattle.std.specs.Prelude.{◌≡◌, ◌≤◌, true, length};
-ghost use Rattle.run_picture.specs.Inputs.{input_of, GivesInput, has_script, script_length};
+ghost use Rattle.std.specs.Prelude.{◌≡◌, true};
+ghost use Rattle.run_picture.specs.Inputs.{input_of, GivesInput, has_script};
 
+use program_edges::parts;
 use std::alloc::Global;
 use step_tables::{Script, ScriptError, ScriptFault};
 use transcript::{TextError, TextFault, Transcript};
@@ -62,27 +63,12 @@ fn has_script(bytes: &[u8]) -> bool
     bytes.starts_with(b"taskscript ")
 }
 
-/// How long the script is in front of a transcript: up to its first line `end`, and else the whole text.
-fn script_length(bytes: &[u8]) -> usize
-    ensures length { result ≡ script_length bytes.now }
-    ensures within { result ≤ length bytes.now }
-{
-    let mut rest = bytes;
-    while let [_, more @ ..] = rest {
-        if rest.starts_with(b"\nend\n") {
-            return bytes.len() - rest.len() + 5;
-        }
-        rest = more;
-    }
-    bytes.len()
-}
-
 /// Reads a script and its transcript.
 fn read_both(alloc: Global, bytes: &[u8]) -> Result<Input, InputError>
     requires { has_script bytes.now ≡ true }
     ensures { GivesInput result (input_of bytes.now) }
 {
-    let (front, behind) = bytes.split_at(script_length(bytes));
+    let (front, behind) = parts(bytes);
     let script = Script::read(alloc, front)?;
     let transcript = Transcript::read(alloc, behind)?;
     Ok(Input {

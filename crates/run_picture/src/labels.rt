@@ -1,7 +1,9 @@
 //! What tasks, lanes and reasons are called in a picture. What comes from the input is a number or a task's
 //! name, so no text needs escaping.
 
+ghost use Rattle.std.specs.Prelude.{◌≡◌, ◌++◌, OnOk};
 ghost use Rattle.text_lines.specs.Added.{Kept};
+ghost use Rattle.run_picture.specs.Drawing.{bare_cause, cause_text};
 
 use crate::bars::{Bar, OWN_LANES};
 use crate::parts::{Part, put};
@@ -84,23 +86,24 @@ pub(crate) fn put_lane(out: &mut Vec<u8>, lane: u32, workers: u32) -> Result<(),
 
 /// Appends why a run was made.
 pub(crate) fn put_cause(out: &mut Vec<u8>, bar: &Bar) -> Result<(), AllocError>
-    ensures { Kept out.old.items out.new.items }
+    ensures kept { Kept out.old.items out.new.items }
+    ensures written { OnOk result (out.new.items ≡ out.old.items ++ cause_text bar.now.reasons bar.now.is_killed) }
 {
     if bar.reasons.is_empty() {
-        return put_bytes(
-            out,
-            if bar.is_killed {
-                b"killed".as_slice()
-            } else {
-                b"none".as_slice()
-            },
-        );
+        return put_bytes(out, bare_cause(bar.is_killed));
     }
     put_reasons(out, bar.reasons)?;
     if bar.is_killed {
         put_bytes(out, b",killed")?;
     }
     Ok(())
+}
+
+/// Why a run was made that has no reason.
+fn bare_cause(is_killed: bool) -> &'static [u8]
+    ensures { result.now ≡ bare_cause is_killed }
+{
+    if is_killed { b"killed" } else { b"none" }
 }
 
 /// How many letters the cause of a run has.

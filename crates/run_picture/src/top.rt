@@ -2,11 +2,12 @@
 
 ghost use Rattle.std.specs.Prelude.{◌≡◌, map, take, IfOk, IfSome, Some, None};
 ghost use Rattle.std.specs.String.{string_bytes};
-ghost use Rattle.sched_base.specs.Streams.{Rose};
+ghost use Rattle.sched_base.specs.Streams.{Appends, AppendsFront, Rose};
 ghost use Rattle.program_edges.specs.Texts.{ReadsAtMost};
 ghost use Rattle.run_picture.specs.Requests.{request_of};
 ghost use Rattle.run_picture.specs.Inputs.{input_of};
-ghost use Rattle.run_picture.specs.Answers.{Answers, IsUnwritten, IsRunning, Complains, IsPicture, GivesPicture};
+ghost use Rattle.run_picture.specs.Answers.{Answers, IsAmong, IsUnwritten, IsRunning, IsPicture, GivesPicture};
+ghost use Rattle.run_picture.specs.ErrorLines.{error_line};
 
 use crate::columns::Board;
 use crate::complaints::complain;
@@ -41,24 +42,32 @@ pub fn taskpicture<S: Source, O: Sink, E: Sink>(
     ensures usage { result ≡ Status.Usage → request_of (map (λ word. string_bytes word) words.now) ≡ None }
     ensures unread { result ≡ Status.Usage → src.new ≡ src.old }
     ensures few { ReadsAtMost 71303169 (S.left src.old) (S.left src.new) }
+    // It comes to all words that are none, unless there is no memory for them; then too nothing was read.
+    ensures among { IsAmong (request_of (map (λ word. string_bytes word) words.now)) result }
+    ensures unasked { request_of (map (λ word. string_bytes word) words.now) ≡ None → src.new ≡ src.old }
     // After all answers but Done and a write fault the sink is as it was.
     ensures unwritten { IsUnwritten result → out.new ≡ out.old }
     // A fault comes only where the stream's count rose in this call.
     ensures read_fault { result ≡ Status.ReadFault → Rose (S.faults src.old) (S.faults src.new) }
     ensures write_fault { result ≡ Status.WriteFault → Rose (O.faults out.old) (O.faults out.new) }
-    // What is told of the answer.
-    ensures told { Complains result (E.held err.old) (E.held err.new) }
+    // The answer's line is told, or a first part of it where that failed; Done has none.
+    ensures told { ¬ Rose (E.faults err.old) (E.faults err.new) → Appends (E.held err.old) (E.held err.new) (error_line result) }
+    ensures begun { AppendsFront (E.held err.old) (E.held err.new) (error_line result) }
+    ensures silent { result ≡ Status.Done → err.new ≡ err.old }
 {
     let status = show(alloc, words, src, out);
-    complain(alloc, err, &status);
+    complain(err, &status);
     status
 }
 
 /// Writes the picture that the words ask for.
+#[tactic(auto, using(crate::proofs::Answered::among_running, crate::proofs::Answered::among_asked, crate::proofs::Answered::among_memory, crate::proofs::Answered::asks_something))]
 fn show<S: Source, O: Sink>(alloc: Global, words: &[String], src: &mut S, out: &mut O) -> Status
     ensures answers { IfSome (S.left src.old) (λ bytes. Answers (request_of (map (λ word. string_bytes word) words.now)) (input_of (take 71303169 bytes)) (O.held out.old) (O.held out.new) result) }
     ensures usage { result ≡ Status.Usage → request_of (map (λ word. string_bytes word) words.now) ≡ None }
     ensures unread { result ≡ Status.Usage → src.new ≡ src.old }
+    ensures among { IsAmong (request_of (map (λ word. string_bytes word) words.now)) result }
+    ensures unasked { request_of (map (λ word. string_bytes word) words.now) ≡ None → src.new ≡ src.old }
     ensures few { ReadsAtMost 71303169 (S.left src.old) (S.left src.new) }
     ensures unwritten { IsUnwritten result → out.new ≡ out.old }
     ensures read_fault { result ≡ Status.ReadFault → Rose (S.faults src.old) (S.faults src.new) }
